@@ -1,0 +1,59 @@
+-- Laws of exclusive or, and of a single bit. Assumes nothing.
+use mathlib.Core.Path.{_≡_, refl, sym, ap, ap₂, _∙_}
+use Prim.Native.Nat.{ℕ, zero, suc, _+_, _*_, _/_, _%_, _^_, _<_}
+use native.Mathlib.Nat.{one-mul}
+use native.Mathlib.Omega.{arith}
+use lib.Arith.{bin-ind}
+use lib.Bits.{bitXor, differ, xor-step, xor-zero-l, xor-zero-r, xor-self, xor-shr}
+use lib.Pow.{shl-exact}
+
+-- ---- exclusive or
+
+differ-lt : (x y : ℕ) → x < 2 → y < 2 → differ x y < 2
+differ-lt zero y p q = q
+differ-lt (suc zero) zero p q = p
+differ-lt (suc zero) (suc zero) p q = omega arith
+differ-lt (suc zero) (suc (suc y)) p q = omega arith
+differ-lt (suc (suc x)) y p q = omega arith
+
+-- of three digits
+differ-assoc : (x y z : ℕ) → x < 2 → y < 2 → z < 2 → differ (differ x y) z ≡ differ x (differ y z)
+differ-assoc zero y z p q r = refl
+differ-assoc (suc zero) zero z p q r = refl
+differ-assoc (suc zero) (suc zero) zero p q r = refl
+differ-assoc (suc zero) (suc zero) (suc zero) p q r = refl
+differ-assoc (suc zero) (suc zero) (suc (suc z)) p q r = omega arith
+differ-assoc (suc zero) (suc (suc y)) z p q r = omega arith
+differ-assoc (suc (suc x)) y z p q r = omega arith
+
+xor-half : (a b : ℕ) → bitXor a b / 2 ≡ bitXor (a / 2) (b / 2)
+xor-half a b = xor-shr a b 1
+
+xor-odd : (a b : ℕ) → bitXor a b % 2 ≡ differ (a % 2) (b % 2)
+xor-odd a b =
+    go (bitXor a b) (bitXor (a / 2) (b / 2)) (differ (a % 2) (b % 2)) (xor-step a b)
+    (differ-lt (a % 2) (b % 2) (omega arith) (omega arith))
+  where
+    go : (x y d : ℕ) → x ≡ y * 2 + d → d < 2 → x % 2 ≡ d
+    go x y d e h = omega arith
+
+pub xor-assoc : (a b c : ℕ) → bitXor (bitXor a b) c ≡ bitXor a (bitXor b c)
+xor-assoc =
+    bin-ind (λ (a : ℕ). (b c : ℕ) → bitXor (bitXor a b) c ≡ bitXor a (bitXor b c))
+    (λ b c. ap (λ (z : ℕ). bitXor z c) (xor-zero-l b) ∙ sym (xor-zero-l (bitXor b c)))
+    (λ a ih b c. xor-step (bitXor a b) c
+    ∙ ap₂ (λ (x y : ℕ). x * 2 + y)
+    (ap (λ (z : ℕ). bitXor z (c / 2)) (xor-half a b) ∙ ih (b / 2) (c / 2) ∙ sym (ap (bitXor (a / 2)) (xor-half b c)))
+    (ap (λ (z : ℕ). differ z (c % 2)) (xor-odd a b)
+    ∙ differ-assoc (a % 2) (b % 2) (c % 2) (omega arith) (omega arith) (omega arith)
+    ∙ sym (ap (differ (a % 2)) (xor-odd b c)))
+    ∙ sym (xor-step a (bitXor b c)))
+
+-- the same bits toggled twice
+pub xor-twice : (a b : ℕ) → bitXor (bitXor a b) b ≡ a
+xor-twice a b = xor-assoc a b b ∙ ap (bitXor a) (xor-self b) ∙ xor-zero-r a
+
+-- ---- one bit, set by a shift
+
+pub one-bit : (k : ℕ) → k < 32 → (1 * 2 ^ k) % 2 ^ 32 ≡ 2 ^ k
+one-bit k h = shl-exact {a = 1} 1 k 32 (omega arith) (omega arith) ∙ one-mul (2 ^ k)

@@ -1,0 +1,57 @@
+-- Laws of choices, and cases on numbers. Assumes nothing.
+use mathlib.Core.Path.{_≡_, refl}
+use mathlib.Core.Bool.{Bool, true, false, false≢true}
+use mathlib.Core.Logic.{_⊎_, inl, inr, ⊎-elim}
+use mathlib.Core.List.{List}
+use Prim.Native.Nat.{ℕ, zero, suc, _≤_, _<_, zero-le, suc-le-suc}
+use native.Mathlib.Decide.{ℕ-discrete}
+use native.Mathlib.Omega.{arith}
+use borrow.Author.Tests.{ne-eqb}
+use Rattle.lists.specs.Choice.{pick, pickList, both, either, orElse}
+
+-- two numbers: the one is below the other or not; they are the same or not
+pub split : (i k : ℕ) → (i < k) ⊎ (k ≤ i)
+split i zero = inr zero-le
+split zero (suc k) = inl (suc-le-suc zero-le)
+split (suc i) (suc k) = ⊎-elim (λ h. inl (suc-le-suc h)) (λ h. inr (suc-le-suc h)) (split i k)
+
+pub same-or : (i k : ℕ) → (i ≡ k) ⊎ (i ≡ k → ⊥)
+same-or i k = elim (ℕ-discrete i k) [ yes e ↦ inl e | no n ↦ inr n ]
+
+-- two choices by one test are the same where the chosen are
+pub pick-cong : (t : Bool) {x x′ y y′ : ℕ} → (t ≡ true → x ≡ x′) → (t ≡ false → y ≡ y′) → pick t x y ≡ pick t x′ y′
+pick-cong true f g = f refl
+pick-cong false f g = g refl
+
+pub pickList-cong : (t : Bool) {x x′ y y′ : List ℕ} → (t ≡ true → x ≡ x′) → (t ≡ false → y ≡ y′) → pickList t x y ≡ pickList t x′ y′
+pickList-cong true f g = f refl
+pickList-cong false f g = g refl
+
+-- what holds of both is so of the chosen
+pub pick-keeps : (P : ℕ → Type 0) (t : Bool) {x y : ℕ} → (t ≡ true → P x) → (t ≡ false → P y) → P (pick t x y)
+pick-keeps P true f g = f refl
+pick-keeps P false f g = g refl
+
+pub both-left : (a b : Bool) → both a b ≡ true → a ≡ true
+both-left true b e = refl
+both-left false b e = e
+
+pub both-right : (a b : Bool) → both a b ≡ true → b ≡ true
+both-right true b e = e
+both-right false b e = absurd (false≢true e)
+
+pub both-false : (a b : Bool) → (a ≡ true → b ≡ true → ⊥) → both a b ≡ false
+both-false true true h = absurd (h refl refl)
+both-false true false h = refl
+both-false false b h = refl
+
+pub orElse-left : (a b : ℕ) → orElse a b ≡ 0 → a ≡ 0
+orElse-left zero b e = refl
+orElse-left (suc a) b e = rw (ne-eqb (suc a) 0 (λ q. omega arith)) at e
+
+pub orElse-right : (a b : ℕ) → orElse a b ≡ 0 → b ≡ 0
+orElse-right zero b e = e
+orElse-right (suc a) b e = let z : suc a ≡ 0 = orElse-left (suc a) b e in omega arith
+
+pub orElse-none : (a b : ℕ) → a ≡ 0 → b ≡ 0 → orElse a b ≡ 0
+orElse-none a b p q = rw p q

@@ -1,0 +1,8 @@
+-- The laws that the crates above cite. Assumes nothing.
+pub mod Tests
+pub mod Choice
+pub mod Tab
+pub mod Upto
+pub mod First
+pub mod Sum
+pub mod Bits

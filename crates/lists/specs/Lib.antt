@@ -1,0 +1,4 @@
+-- Choices by a test, lists by a rule, steps in a row. Assumes nothing.
+pub mod Choice
+pub mod Tab
+pub mod Runs

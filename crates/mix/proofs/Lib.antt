@@ -1,0 +1,4 @@
+-- The laws that the crates above cite. Assumes nothing.
+pub mod Parts
+pub mod BlendLaws
+pub mod FadeLaws

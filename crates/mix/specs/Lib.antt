@@ -1,0 +1,3 @@
+-- What `src/lib.rt` promises. Assumes nothing.
+pub mod Blend
+pub mod Fade
