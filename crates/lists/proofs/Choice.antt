@@ -28,9 +28,9 @@ pickList-cong true f g = f refl
 pickList-cong false f g = g refl
 
 -- what holds of both is so of the chosen
-pub pick-keeps : (P : ℕ → Type 0) (t : Bool) {x y : ℕ} → (t ≡ true → P x) → (t ≡ false → P y) → P (pick t x y)
-pick-keeps P true f g = f refl
-pick-keeps P false f g = g refl
+pub pick-keeps : (P : ℕ → Type 0) (t : Bool) (x y : ℕ) → (t ≡ true → P x) → (t ≡ false → P y) → P (pick t x y)
+pick-keeps P true x y f g = f refl
+pick-keeps P false x y f g = g refl
 
 pub both-left : (a b : Bool) → both a b ≡ true → a ≡ true
 both-left true b e = refl

@@ -1,2 +1,3 @@
 -- What `src/lib.rt` promises. Assumes nothing.
 pub mod Geometry
+pub mod Selection

@@ -7,6 +7,12 @@
 //      832  strings         8 of 32            kind 2
 //    1,088  font           96 of  8            kind 3
 
+ghost use mathlib.Core.Path.{_≡_};
+ghost use Prim.Native.Nat.{_+_, _<_, _≤_};
+ghost use Rattle.tables.specs.Geometry.{tablesLen, bankAt};
+ghost use Rattle.tables.specs.Selection.{controllerOf, kindOf, bankOf, endOf, firstByteOf, namedBy};
+use words::fields::active_bank;
+
 // The length of the whole buffer.
 pub const TABLES_LEN: usize = 29696;
 
@@ -18,3 +24,55 @@ const BANK_LEN: usize = 1856;
 const KIND_AT: [usize; 4] = [0, 768, 832, 1088];
 
 const KIND_LEN: [u32; 4] = [768, 64, 256, 768];
+
+// The controller, the kind and the bank that a selection names.
+pub fn controller_of(selection: u32) -> u32
+    ensures { λ r. ⌜ r ≡ controllerOf selection ⌝ }
+{
+    selection / 8 % 8
+}
+
+pub fn kind_of(selection: u32) -> u32
+    ensures { λ r. ⌜ r ≡ kindOf selection ⌝ }
+{
+    selection / 2 % 4
+}
+
+pub fn bank_of(selection: u32) -> u32
+    ensures { λ r. ⌜ r ≡ bankOf selection ⌝ }
+{
+    selection % 2
+}
+
+// How many bytes the selected table has: the place's end.
+pub fn end_of(selection: u32) -> u32
+    ensures { λ r. ⌜ r ≡ endOf selection ⌝ }
+{
+    KIND_LEN[kind_of(selection) as usize]
+}
+
+// Where a kind of a bank of a controller begins in the buffer.
+fn bank_at(controller: u32, bank: u32, kind: u32) -> usize
+    requires { ⌜ (controller < 8) × (bank < 2) × (kind < 4) ⌝ }
+    ensures { λ r. ⌜ r ≡ bankAt controller bank kind ⌝ }
+{
+    CONTROLLER_LEN * (controller as usize) + BANK_LEN * (bank as usize) + KIND_AT[kind as usize]
+}
+
+// Where the selected table begins: all of its bytes lie in the buffer.
+pub fn first_byte_of(selection: u32) -> usize
+    ensures { λ r. ⌜ (r ≡ firstByteOf selection) × (r + endOf selection ≤ tablesLen) ⌝ }
+{
+    bank_at(
+        controller_of(selection),
+        bank_of(selection),
+        kind_of(selection),
+    )
+}
+
+// Whether the words name the selected bank as an active one.
+pub fn is_named(w: &[u32; 52], selection: u32) -> bool
+    ensures { λ r. ⌜ r ≡ namedBy (now (w .entry)) selection ⌝ }
+{
+    active_bank(w, kind_of(selection), controller_of(selection)) == bank_of(selection)
+}

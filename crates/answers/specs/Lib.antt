@@ -1,0 +1,2 @@
+-- The numbers that contracts name. Assumes nothing.
+pub mod Answers

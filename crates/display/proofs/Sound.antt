@@ -1,0 +1,122 @@
+-- Every state that comes to be is sound: the fresh one is, and every call keeps it.
+-- Assumes nothing.
+use Prim.Native.Nat.{ℕ, _<_}
+use mathlib.Core.Path.{_≡_, refl, _∙_}
+use mathlib.Core.Bool.{Bool, true, false}
+use mathlib.Core.Logic.{_⊎_, inl, inr}
+use mathlib.Core.List.{List}
+use native.Mathlib.Omega.{arith}
+use borrow.Author.Tests.{ltb-true, eqb-true}
+use lib.Dec.{ltb, eqb}
+use lib.ListN.{length, length-set}
+use Rattle.lists.specs.Choice.{pick}
+use Rattle.answers.specs.Answers.{done, notSelected, bankActive, bankFull, tablesLength}
+use Rattle.words.specs.Fields.{updateOf}
+use Rattle.words.specs.Check.{checkOf}
+use Rattle.tables.specs.Geometry.{tablesLen}
+use Rattle.tables.specs.Selection.{endOf, namedBy}
+use Rattle.lists.proofs.Choice.{orElse-right}
+use Rattle.display.specs.declared.Display.{Display}
+use Rattle.display.specs.declared.Told.{Told}
+use Rattle.display.specs.State.{fresh, pickTold, stepped, writeOf, selectOf, toggleOf, startOf}
+use Rattle.display.specs.Put.{putAnswer, pickState, putState, putOf}
+use Rattle.display.specs.Reached.{Reached, by-new, by-write, by-select, by-toggle, by-start, by-put, Sound}
+
+-- what holds of both arms holds of the choice
+pickTold-keeps : (P : Told → Type 0) (t : Bool) (x y : Told) → (t ≡ true → P x) → (t ≡ false → P y) → P (pickTold t x y)
+pickTold-keeps P true x y f g = f refl
+pickTold-keeps P false x y f g = g refl
+
+pickState-keeps : (P : Display → Type 0) (t : Bool) (x y : Display) → (t ≡ true → P x) → (t ≡ false → P y) → P (pickState t x y)
+pickState-keeps P true x y f g = f refl
+pickState-keeps P false x y f g = g refl
+
+abbrev SoundTold : Told → Type 0
+SoundTold t = Sound (t .state)
+
+pub fresh-sound : Sound fresh
+fresh-sound = record { pending = refl; active = refl; accepted = inl refl; selection = omega arith; place = omega arith }
+
+module _ (d : Display) (s : Sound d) where
+  pub write-sound : (register value : ℕ) → Sound (writeOf d register value .state)
+  write-sound register value =
+      pickTold-keeps SoundTold (ltb register 52) _ _
+      (λ h. record {
+        pending = length-set (d .pending) register value ∙ s .pending;
+        active = s .active;
+        accepted = s .accepted;
+        selection = s .selection;
+        place = s .place;
+      })
+      (λ h. s)
+
+  pub select-sound : (selection : ℕ) → Sound (selectOf d selection .state)
+  select-sound selection =
+      pickTold-keeps SoundTold (ltb selection 64) _ _
+      (λ h. record {
+        pending = s .pending;
+        active = s .active;
+        accepted = s .accepted;
+        selection = ltb-true selection 64 h;
+        place = omega arith;
+      })
+      (λ h. s)
+
+  pub toggle-sound : (bits : ℕ) → Sound (toggleOf d bits .state)
+  toggle-sound bits =
+      record { pending = s .pending; active = s .active; accepted = s .accepted; selection = s .selection; place = s .place }
+
+  stepped-sound : Sound (stepped d)
+  stepped-sound =
+      record { pending = s .pending; active = s .active; accepted = s .accepted; selection = s .selection; place = s .place }
+
+  pub start-sound : Sound (startOf d .state)
+  start-sound =
+      pickTold-keeps SoundTold (updateOf (d .pending)) _ _
+      (λ u. pickTold-keeps SoundTold (eqb (checkOf (d .pending)) done) _ _
+      (λ e. record {
+        pending = s .pending;
+        active = s .pending;
+        accepted = inr (eqb-true _ _ e);
+        selection = s .selection;
+        place = s .place;
+      })
+      (λ e. stepped-sound))
+      (λ u. stepped-sound)
+
+  -- a byte is stored below the table's end alone
+  below-end : (tables : List ℕ) → putAnswer d tables ≡ done → d .place < endOf (d .selection)
+  unfolding putAnswer
+  below-end tables e =
+      let p = orElse-right (pick (eqb (length tables) tablesLen) done tablesLength) _ e in
+      let q = orElse-right (pick (d .selected) done notSelected) _ p in
+      let r = orElse-right (pick (namedBy (d .active) (d .selection)) bankActive done) _ q in
+      ltb-true _ _ (passed (ltb (d .place) (endOf (d .selection))) r)
+    where
+      passed : (t : Bool) → pick t done bankFull ≡ done → t ≡ true
+      passed true e = refl
+      passed false e = absurd (let z : ⊥ = omega arith in z)
+
+  pub put-sound : (tables : List ℕ) → Sound (putOf d tables .state)
+  unfolding putOf putState
+  put-sound tables =
+      pickState-keeps Sound (eqb (putAnswer d tables) done) _ _
+      (λ e. let h : d .place < endOf (d .selection) = below-end tables (eqb-true _ _ e) in
+      record {
+        pending = s .pending;
+        active = s .active;
+        accepted = s .accepted;
+        selection = s .selection;
+        place = omega arith;
+      })
+      (λ e. pickState-keeps Sound (eqb (putAnswer d tables) bankFull) _ _
+      (λ f. record { pending = s .pending; active = s .active; accepted = s .accepted; selection = s .selection; place = s .place })
+      (λ f. s))
+
+pub reached-sound : {d : Display} → Reached d → Sound d
+reached-sound by-new = fresh-sound
+reached-sound (by-write {d} register value r) = write-sound d (reached-sound r) register value
+reached-sound (by-select {d} selection r) = select-sound d (reached-sound r) selection
+reached-sound (by-toggle {d} bits r) = toggle-sound d (reached-sound r) bits
+reached-sound (by-start {d} r) = start-sound d (reached-sound r)
+reached-sound (by-put {d} tables r) = put-sound d (reached-sound r) tables

@@ -1,0 +1,4 @@
+-- What `src/lib.rt` promises. Assumes nothing.
+pub mod State
+pub mod Put
+pub mod Reached

@@ -1,0 +1,32 @@
+-- The states that come to be, and what is so of each: 01 "What the display is made of", "only a fresh
+-- state and what these calls made of it come in". Assumes nothing.
+use Prim.Native.Nat.{ℕ, _≤_, _<_}
+use mathlib.Core.Path.{_≡_}
+use mathlib.Core.Logic.{_⊎_}
+use mathlib.Core.List.{List}
+use lib.ListN.{length, replicate}
+use Rattle.answers.specs.Answers.{done}
+use Rattle.words.specs.Check.{checkOf}
+use Rattle.tables.specs.Selection.{endOf}
+use Rattle.display.specs.declared.Display.{Display}
+use Rattle.display.specs.declared.Told.{Told}
+use Rattle.display.specs.State.{fresh, writeOf, selectOf, toggleOf, startOf}
+use Rattle.display.specs.Put.{putOf}
+
+-- the fresh state, and what each call makes of one that has come to be
+pub data Reached : Display → Type 0 where
+  by-new : Reached fresh
+  by-write : {d : Display} (register value : ℕ) → Reached d → Reached (writeOf d register value .state)
+  by-select : {d : Display} (selection : ℕ) → Reached d → Reached (selectOf d selection .state)
+  by-toggle : {d : Display} (bits : ℕ) → Reached d → Reached (toggleOf d bits .state)
+  by-start : {d : Display} → Reached d → Reached (startOf d .state)
+  by-put : {d : Display} (tables : List ℕ) → Reached d → Reached (putOf d tables .state)
+
+-- there are 52 words of each; the active ones are all 0 or pass the check; the selection is in range,
+-- and the place at most at its table's end
+pub record Sound (d : Display) : Type 0 where
+  pub pending : length (d .pending) ≡ 52
+  pub active : length (d .active) ≡ 52
+  pub accepted : (d .active ≡ replicate 52 0) ⊎ (checkOf (d .active) ≡ done)
+  pub selection : d .selection < 64
+  pub place : d .place ≤ endOf (d .selection)

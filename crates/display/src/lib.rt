@@ -1,0 +1,207 @@
+// The display's state and its calls. Each call takes the state and hands it back with an answer, and
+// a refusal leaves what the answer's row in `answers` says.
+ghost use mathlib.Core.Path.{_≡_};
+ghost use Rattle.words.specs.Fields.{widthOf, heightOf};
+ghost use Rattle.display.specs.State.{fresh, toldAt, writeOf, selectOf, toggleOf, startOf};
+ghost use Rattle.display.specs.Put.{putOf, putTables};
+use answers::BANK_ACTIVE;
+use answers::BANK_FULL;
+use answers::DONE;
+use answers::NO_REGISTER;
+use answers::NO_SELECTION;
+use answers::NOT_SELECTED;
+use answers::TABLES_LENGTH;
+use tables::TABLES_LEN;
+use tables::controller_of;
+use tables::end_of;
+use tables::first_byte_of;
+use tables::is_named;
+use words::check::refusal_of;
+use words::fields::is_update;
+use words::fields::screen_height;
+use words::fields::screen_width;
+
+const REGISTERS: u32 = 52;
+
+const SELECTIONS: u32 = 64;
+
+// Only `new` and the calls below make one: its fields are closed to other crates.
+pub struct Display {
+    pending: [u32; 52],
+    active: [u32; 52],
+    frame: u32,
+    errors: u32,
+    selected: bool,
+    selection: u32,
+    place: u32,
+}
+
+// What a call answers: the state afterwards, and 0 or the number of the refusal.
+pub struct Told {
+    pub state: Display,
+    pub answer: u8,
+}
+
+// The state at a frame number, and an answer.
+fn at_frame(mut state: Display, frame: u32, answer: u8) -> Told
+    ensures { λ r. ⌜ r ≡ toldAt state frame answer ⌝ }
+{
+    state.frame = frame;
+    Told {
+        state: state,
+        answer: answer,
+    }
+}
+
+impl Display {
+    // A display to which nothing has happened: all numbers 0, and nothing selected.
+    pub fn new() -> Display
+        ensures { λ r. ⌜ r ≡ fresh ⌝ }
+    {
+        Display {
+            pending: [0; 52],
+            active: [0; 52],
+            frame: 0,
+            errors: 0,
+            selected: false,
+            selection: 0,
+            place: 0,
+        }
+    }
+
+    // Changes a pending word. A register above 51 is refused with 1, and all is as it was.
+    pub fn write(mut self, register: u32, value: u32) -> Told
+        ensures { λ r. ⌜ r ≡ writeOf self register value ⌝ }
+    {
+        if REGISTERS <= register {
+            return Told {
+                state: self,
+                answer: NO_REGISTER,
+            };
+        }
+        let at = register as usize;
+        self.pending[at] = value;
+        Told {
+            state: self,
+            answer: DONE,
+        }
+    }
+
+    // Selects a table for `put`, from its first byte on. A selection above 63 is refused with 2, and
+    // all is as it was.
+    pub fn select(mut self, selection: u32) -> Told
+        ensures { λ r. ⌜ r ≡ selectOf self selection ⌝ }
+    {
+        if SELECTIONS <= selection {
+            return Told {
+                state: self,
+                answer: NO_SELECTION,
+            };
+        }
+        self.selected = true;
+        self.selection = selection;
+        self.place = 0;
+        Told {
+            state: self,
+            answer: DONE,
+        }
+    }
+
+    // Turns over each bit of the error word that is set in `bits`. It is never refused.
+    pub fn toggle(mut self, bits: u32) -> Told
+        ensures { λ r. ⌜ r ≡ toggleOf self bits ⌝ }
+    {
+        self.errors = self.errors ^ bits;
+        Told {
+            state: self,
+            answer: DONE,
+        }
+    }
+
+    // Begins the next frame. With the pending update bit set the pending words are checked, and become
+    // the active ones or are refused with 7 to 11; a refusal leaves all but the frame number.
+    pub fn start(mut self) -> Told
+        ensures { λ r. ⌜ r ≡ startOf self ⌝ }
+    {
+        let frame = self.frame;
+        let next = std::num::wrapping_add_u32(frame, 1);
+        let pending = self.pending;
+        if !is_update(&pending) {
+            return at_frame(self, next, DONE);
+        }
+        let refusal = refusal_of(&pending);
+        if refusal != DONE {
+            return at_frame(self, next, refusal);
+        }
+        self.active = pending;
+        at_frame(self, next, DONE)
+    }
+
+    // Stores a byte in the selected table and goes on to the next place. Refused, in this order, with 6
+    // where `tables` is not 29,696 bytes, 3 where nothing is selected, 4 where the active words name
+    // the bank, and 5 at the table's end, which sets an error bit; else a refusal changes nothing.
+    pub fn put(mut self, tables: &mut [u8], byte: u8) -> Told
+        ensures state { λ r. ⌜ r ≡ putOf self (now (tables .entry)) ⌝ }
+        ensures tables { λ _. ⌜ now (tables .exit) ≡ putTables self (now (tables .entry)) byte ⌝ }
+    {
+        if tables.len() != TABLES_LEN {
+            return Told {
+                state: self,
+                answer: TABLES_LENGTH,
+            };
+        }
+        if !self.selected {
+            return Told {
+                state: self,
+                answer: NOT_SELECTED,
+            };
+        }
+        let selection = self.selection;
+        if is_named(&self.active, selection) {
+            return Told {
+                state: self,
+                answer: BANK_ACTIVE,
+            };
+        }
+        let place = self.place;
+        if place < end_of(selection) {
+            let at = first_byte_of(selection) + (place as usize);
+            tables[at] = byte;
+            self.place = place + 1;
+            return Told {
+                state: self,
+                answer: DONE,
+            };
+        }
+        self.errors = self.errors | (1 << (4 * controller_of(selection) + 1));
+        Told {
+            state: self,
+            answer: BANK_FULL,
+        }
+    }
+
+    pub fn error_word(self) -> u32
+        ensures { λ r. ⌜ r ≡ self .errors ⌝ }
+    {
+        self.errors
+    }
+
+    pub fn frame_number(self) -> u32
+        ensures { λ r. ⌜ r ≡ self .frame ⌝ }
+    {
+        self.frame
+    }
+
+    // The size of the frame that painting writes: of the active words.
+    pub fn output_width(self) -> u16
+        ensures { λ r. ⌜ r ≡ widthOf (self .active) ⌝ }
+    {
+        screen_width(&self.active)
+    }
+
+    pub fn output_height(self) -> u16
+        ensures { λ r. ⌜ r ≡ heightOf (self .active) ⌝ }
+    {
+        screen_height(&self.active)
+    }
+}

@@ -1,0 +1,29 @@
+-- What a selection selects, and the active banks: 01 "Tables". Assumes nothing.
+use Prim.Native.Nat.{ℕ, _/_, _%_}
+use mathlib.Core.Bool.{Bool}
+use mathlib.Core.List.{List}
+use lib.Dec.{eqb}
+use Rattle.words.specs.Fields.{activeBankOf}
+use Rattle.tables.specs.Geometry.{kindLen, bankAt}
+
+-- 01 "Tables": "A selection is a number 0..63: bits 5:3 controller (001), bits 2:1 kind (0
+-- instruction, 1 colour, 2 text, 3 font), bit 0 bank."
+abbrev pub controllerOf : ℕ → ℕ
+controllerOf selection = selection / 8 % 8
+
+abbrev pub kindOf : ℕ → ℕ
+kindOf selection = selection / 2 % 4
+
+abbrev pub bankOf : ℕ → ℕ
+bankOf selection = selection % 2
+
+-- the kind's end, and where in the buffer its first byte stands
+abbrev pub endOf : ℕ → ℕ
+endOf selection = kindLen (kindOf selection)
+
+abbrev pub firstByteOf : ℕ → ℕ
+firstByteOf selection = bankAt (controllerOf selection) (bankOf selection) (kindOf selection)
+
+-- 01 "Answers by number", 4: "the active word 3 names the selected bank"
+abbrev pub namedBy : List ℕ → ℕ → Bool
+namedBy w selection = eqb (activeBankOf w (kindOf selection) (controllerOf selection)) (bankOf selection)

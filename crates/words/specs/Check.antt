@@ -1,0 +1,74 @@
+-- What is wrong with 52 words: 01 "Answers by number", 7 to 11. Assumes nothing.
+use Prim.Native.Nat.{ℕ, zero, suc, _+_, _-_}
+use mathlib.Core.List.{List, [], _∷_, _++_, map}
+use lib.ListN.{getD}
+use lib.Dec.{ltb, eqb}
+use lib.Bits.{bitAnd}
+use Rattle.lists.specs.Choice.{pick, orElse}
+use Rattle.lists.specs.Runs.{firstOf}
+use Rattle.answers.specs.Answers.{done, reservedBit, emptyScreen, emptyLayer, offScreen, sameDepth}
+use Rattle.words.specs.declared.fields.Layer.{Layer}
+use Rattle.words.specs.Fields.{widthOf, heightOf, layerOf}
+
+-- ---- 7
+
+-- 01 "Registers": the bits that are a field's in a layer's six words, words 4+6n to 9+6n
+abbrev pub layerBits : List ℕ
+layerBits = 0x0000_0703 ∷ 0x8000_00ff ∷ 0x0fff_0fff ∷ 0x0fff_0fff ∷ 0xffff_ffff ∷ 0x00ff_ffff ∷ []
+
+abbrev pub times : ℕ → List ℕ → List ℕ
+times zero l = []
+times (suc n) l = l ++ times n l
+
+-- in words 0, 1, 2, 3, and then in those of layers 0 to 7
+abbrev pub fieldBits : List ℕ
+fieldBits = 0x0000_0005 ∷ 0x0fff_0fff ∷ 0x00ff_ffff ∷ 0xffff_ffff ∷ times 8 layerBits
+
+-- "Every other bit is reserved."
+abbrev pub reservedBits : List ℕ
+reservedBits = map (λ bits. 0xffff_ffff - bits) fieldBits
+
+-- "a reserved bit is set in any pending word"
+unfoldable pub reservedAt : List ℕ → ℕ → ℕ
+reservedAt w i = pick (eqb (bitAnd (getD w i 0) (getD reservedBits i 0)) 0) done reservedBit
+
+-- ---- 8
+
+-- "output width or height 0"
+unfoldable pub screenOf : List ℕ → ℕ
+screenOf w = pick (eqb (widthOf w) 0) emptyScreen (pick (eqb (heightOf w) 0) emptyScreen done)
+
+-- ---- 9 and 10
+
+-- "enabled layer with width or height 0", "enabled layer with x+width > output width, or y+height >
+-- output height", on a screen of W by H
+unfoldable pub placeOf : ℕ → ℕ → Layer → ℕ
+placeOf W H l =
+    pick (l .on)
+    (pick (eqb (l .width) 0) emptyLayer
+    (pick (eqb (l .height) 0) emptyLayer
+    (pick (ltb W (l .x + l .width)) offScreen (pick (ltb H (l .y + l .height)) offScreen done))))
+    done
+
+unfoldable pub placeAt : List ℕ → ℕ → ℕ
+placeAt w n = placeOf (widthOf w) (heightOf w) (layerOf w n)
+
+-- ---- 11
+
+-- "two enabled layers of one depth"
+unfoldable pub clashOf : Layer → Layer → ℕ
+clashOf l m = pick (l .on) (pick (m .on) (pick (eqb (l .depth) (m .depth)) sameDepth done) done) done
+
+unfoldable pub clashAt : List ℕ → ℕ → ℕ → ℕ
+clashAt w n m = clashOf (layerOf w n) (layerOf w m)
+
+unfoldable pub clashBelow : List ℕ → ℕ → ℕ
+clashBelow w n = firstOf n (clashAt w n)
+
+-- ---- together
+
+-- "Start 7, 8, then layers 0 to 7 each 9 then 10, then 11."
+unfoldable pub checkOf : List ℕ → ℕ
+checkOf w =
+    orElse (firstOf 52 (reservedAt w))
+    (orElse (screenOf w) (orElse (firstOf 8 (placeAt w)) (firstOf 8 (clashBelow w))))

@@ -1,0 +1,93 @@
+// The fields of the 52 words by name: 01 "Registers". No other file shifts or masks a word.
+ghost use mathlib.Core.Path.{_≡_};
+ghost use Prim.Native.Nat.{_<_};
+ghost use Rattle.words.specs.Fields.{shownOf, updateOf, widthOf, heightOf, groundOf, activeBankOf, layerOf, lowOf, highOf};
+
+// The six words of a layer, read.
+pub struct Layer {
+    pub on: bool,
+    pub graphics: bool,
+    pub depth: u32,
+    pub global: bool,
+    pub value: u8,
+    pub x: u16,
+    pub y: u16,
+    pub width: u16,
+    pub height: u16,
+    pub start: u32,
+    pub length: u16,
+    pub target: u8,
+}
+
+// Two numbers of 12 bits share a word: the lower at 11:0, the upper at 27:16.
+fn lower(word: u32) -> u16
+    ensures { λ r. ⌜ r ≡ lowOf word ⌝ }
+{
+    (word % 4096) as u16
+}
+
+fn upper(word: u32) -> u16
+    ensures { λ r. ⌜ r ≡ highOf word ⌝ }
+{
+    (word / 65536 % 4096) as u16
+}
+
+// Whether the display is on.
+pub fn is_shown(w: &[u32; 52]) -> bool
+    ensures { λ r. ⌜ r ≡ shownOf (now (w .entry)) ⌝ }
+{
+    w[0] % 2 == 1
+}
+
+// Whether a start takes the words up.
+pub fn is_update(w: &[u32; 52]) -> bool
+    ensures { λ r. ⌜ r ≡ updateOf (now (w .entry)) ⌝ }
+{
+    w[0] / 4 % 2 == 1
+}
+
+pub fn screen_width(w: &[u32; 52]) -> u16
+    ensures { λ r. ⌜ r ≡ widthOf (now (w .entry)) ⌝ }
+{
+    lower(w[1])
+}
+
+pub fn screen_height(w: &[u32; 52]) -> u16
+    ensures { λ r. ⌜ r ≡ heightOf (now (w .entry)) ⌝ }
+{
+    upper(w[1])
+}
+
+// The bank of a kind (0 instruction, 1 colour, 2 text, 3 font) that controller g paints from.
+pub fn active_bank(w: &[u32; 52], kind: u32, g: u32) -> u32
+    requires { ⌜ (kind < 4) × (g < 8) ⌝ }
+    ensures { λ r. ⌜ r ≡ activeBankOf (now (w .entry)) kind g ⌝ }
+{
+    (w[3] >> (8 * kind + g)) % 2
+}
+
+pub fn layer_of(w: &[u32; 52], n: usize) -> Layer
+    requires { ⌜ n < 8 ⌝ }
+    ensures { λ r. ⌜ r ≡ layerOf (now (w .entry)) n ⌝ }
+{
+    let kind = w[4 + 6 * n];
+    let alpha = w[5 + 6 * n];
+    let place = w[6 + 6 * n];
+    let size = w[7 + 6 * n];
+    let start = w[8 + 6 * n];
+    let fade = w[9 + 6 * n];
+    Layer {
+        on: kind % 2 == 1,
+        graphics: kind / 2 % 2 == 1,
+        depth: kind / 256 % 8,
+        global: alpha / 2147483648 % 2 == 1,
+        value: (alpha % 256) as u8,
+        x: lower(place),
+        y: upper(place),
+        width: lower(size),
+        height: upper(size),
+        start: start,
+        length: (fade % 65536) as u16,
+        target: (fade / 65536 % 256) as u8,
+    }
+}
