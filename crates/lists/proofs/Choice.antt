@@ -1,5 +1,5 @@
 -- Laws of choices, and cases on numbers. Assumes nothing.
-use mathlib.Core.Path.{_≡_, refl}
+use mathlib.Core.Path.{_≡_, refl, sym}
 use mathlib.Core.Bool.{Bool, true, false, false≢true}
 use mathlib.Core.Logic.{_⊎_, inl, inr, ⊎-elim}
 use mathlib.Core.List.{List}
@@ -44,6 +44,22 @@ pub both-false : (a b : Bool) → (a ≡ true → b ≡ true → ⊥) → both a
 both-false true true h = absurd (h refl refl)
 both-false true false h = refl
 both-false false b h = refl
+
+pub both-none : (a : Bool) → both a false ≡ false
+both-none true = refl
+both-none false = refl
+
+pub either-any : (a : Bool) → either a true ≡ true
+either-any true = refl
+either-any false = refl
+
+pub either-left : (a b : Bool) → either a b ≡ false → a ≡ false
+either-left true b e = e
+either-left false b e = refl
+
+pub either-right : (a b : Bool) → either a b ≡ false → b ≡ false
+either-right true b e = absurd (false≢true (sym e))
+either-right false b e = e
 
 pub orElse-left : (a b : ℕ) → orElse a b ≡ 0 → a ≡ 0
 orElse-left zero b e = refl

@@ -4,5 +4,6 @@ pub mod Choice
 pub mod Tab
 pub mod Upto
 pub mod First
+pub mod Zero
 pub mod Sum
 pub mod Bits

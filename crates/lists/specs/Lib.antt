@@ -2,3 +2,4 @@
 pub mod Choice
 pub mod Tab
 pub mod Runs
+pub mod Zero

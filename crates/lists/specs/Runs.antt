@@ -1,4 +1,4 @@
--- What n indexes give together: a first refusal, a sum. Each recurses at the upper
+-- What n indexes give together: a first refusal, a sum, steps in a row. Each recurses at the upper
 -- end, so that a loop that counts up adds one turn. Assumes nothing.
 use Prim.Native.Nat.{ℕ, zero, suc, _+_}
 use Rattle.lists.specs.Choice.{orElse}
@@ -12,3 +12,8 @@ firstOf (suc n) f = orElse (firstOf n f) (f n)
 unfoldable pub sumOf : ℕ → (ℕ → ℕ) → ℕ
 sumOf zero f = 0
 sumOf (suc n) f = sumOf n f + f n
+
+-- p after the steps f a, f (a + 1), .. f (a + k - 1), in that order
+unfoldable pub run : ℕ → ℕ → (ℕ → ℕ → ℕ) → ℕ → ℕ
+run a zero f p = p
+run a (suc k) f p = f (a + k) (run a k f p)

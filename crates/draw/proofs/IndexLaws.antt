@@ -1,0 +1,54 @@
+-- A colour index is below 16, a list's count at most 48, and an empty list leaves index 0.
+-- Assumes nothing.
+use mathlib.Core.Path.{_≡_}
+use mathlib.Core.Bool.{Bool}
+use mathlib.Core.List.{List}
+use Prim.Native.Nat.{ℕ, zero, suc, _%_, _≤_, _<_}
+use native.Mathlib.Omega.{arith}
+use Rattle.lists.specs.Choice.{pick}
+use Rattle.lists.proofs.Choice.{pick-keeps}
+use Rattle.lists.proofs.Zero.{zeroFrom-le}
+use Rattle.tables.specs.Geometry.{instructions}
+use Rattle.draw.specs.Instruction.{opcode}
+use Rattle.draw.specs.Box.{boxAfter, boxOf}
+use Rattle.draw.specs.Text.{inked, rowAfter, textAfter, textOf}
+use Rattle.draw.specs.Drawing.{drawnBy, drawnTo, countOf, indexAt}
+
+pub countOf-le : (ins : List ℕ) → countOf ins ≤ instructions
+unfolding countOf
+countOf-le ins = zeroFrom-le instructions (opcode ins) 0
+
+-- ---- below 16
+
+pick-lt : (t : Bool) {x y : ℕ} → x < 16 → y < 16 → pick t x y < 16
+pick-lt t hx hy = pick-keeps (λ (m : ℕ). m < 16) t (λ _. hx) (λ _. hy)
+
+mod-16 : (n : ℕ) → n % 16 < 16
+mod-16 n = omega arith
+
+boxOf-lt : (ins : List ℕ) (k v u old : ℕ) → old < 16 → boxOf ins k v u old < 16
+unfolding boxOf boxAfter
+boxOf-lt ins k v u old h = search (pick-lt, mod-16) depth 8
+
+textOf-lt : (ins strings font : List ℕ) (k v u old : ℕ) → old < 16 → textOf ins strings font k v u old < 16
+unfolding textOf textAfter rowAfter inked
+textOf-lt ins strings font k v u old h = search (pick-lt, mod-16) depth 8
+
+drawnBy-lt : (ins strings font : List ℕ) (k v u old : ℕ) → old < 16 → drawnBy ins strings font k v u old < 16
+unfolding drawnBy
+drawnBy-lt ins strings font k v u old h = search (pick-lt, boxOf-lt, textOf-lt) depth 8
+
+pub drawnTo-lt : (ins strings font : List ℕ) (n v u : ℕ) → drawnTo ins strings font n v u < 16
+unfolding drawnTo
+drawnTo-lt ins strings font zero v u = omega arith
+drawnTo-lt ins strings font (suc n) v u = drawnBy-lt ins strings font n v u _ (drawnTo-lt ins strings font n v u)
+
+pub indexAt-lt : (ins strings font : List ℕ) (v u : ℕ) → indexAt ins strings font v u < 16
+unfolding indexAt
+indexAt-lt ins strings font v u = drawnTo-lt ins strings font (countOf ins) v u
+
+-- ---- nothing before END
+
+pub indexAt-none : (ins strings font : List ℕ) (v u : ℕ) → countOf ins ≡ 0 → indexAt ins strings font v u ≡ 0
+unfolding indexAt drawnTo
+indexAt-none ins strings font v u e = rw e

@@ -1,0 +1,131 @@
+-- Laws of text: a row of pixels is drawn part by part, from the left; a row beside the text is left.
+-- Assumes nothing.
+use mathlib.Core.Path.{_≡_, sym, ap, _∙_}
+use mathlib.Core.Logic.{⊎-elim}
+use mathlib.Core.List.{List}
+use Prim.Native.Nat.{ℕ, _+_, _-_, _*_, _/_, _%_, _≤_, _<_}
+use native.Mathlib.Nat.{add-mul, div-lt-iff-lt-mul, le-div-iff-mul-le, add-mul-div-right}
+use native.Mathlib.Omega.{arith}
+use lib.ListN.{getD}
+use borrow.Author.Tests.{le-leb, lt-leb, lt-ltb, le-ltb, eq-eqb, ne-eqb}
+use Rattle.lists.proofs.Choice.{split, both-none}
+use Rattle.draw.specs.Text.{character, glyphRow, pixelOf, inked, rowAfter, stringPixel, stringAfter, textAfter}
+use Rattle.draw.specs.Rows.{runAfter, pixelAfter}
+use Rattle.draw.proofs.RunLaws.{run-in, run-left, run-right}
+
+-- ---- a row of pixels
+
+module _ (z : ℕ) (pos : 0 < z) (x colour : ℕ) where
+  row-left : (p : ℕ → ℕ) (n u old : ℕ) → u < x → rowAfter p n z x colour u old ≡ old
+  unfolding rowAfter
+  row-left p n u old h = simp (lt-leb x u h)
+
+  row-right : (p : ℕ → ℕ) (n u old : ℕ) → x + n * z ≤ u → rowAfter p n z x colour u old ≡ old
+  unfolding rowAfter
+  row-right p n u old h =
+      let q : n ≤ (u - x) / z = le-div-iff-mul-le {k = z} pos .1 (omega arith) in simp (le-ltb ((u - x) / z) n q, both-none)
+
+  row-in : (p : ℕ → ℕ) (n u old : ℕ) → x ≤ u → u < x + n * z → rowAfter p n z x colour u old ≡ inked (p ((u - x) / z)) colour old
+  unfolding rowAfter
+  row-in p n u old a b =
+      let q : (u - x) / z < n = div-lt-iff-lt-mul {k = z} pos .1 (omega arith) in simp (le-leb x u a, lt-ltb ((u - x) / z) n q)
+
+  pub row-none : (p : ℕ → ℕ) (u old : ℕ) → rowAfter p 0 z x colour u old ≡ old
+  row-none p u old = ⊎-elim (row-left p 0 u old) (λ (g : x ≤ u). row-right p 0 u old (omega arith)) (split u x)
+
+-- a pixels from x and then b more, q, from x + a * z
+pub row-more : (z : ℕ) → 0 < z → (x colour a b at : ℕ) (p q : ℕ → ℕ) → at ≡ x + a * z → ((j : ℕ) → j < b → q j ≡ p (a + j)) → (u old : ℕ)
+    → rowAfter p (a + b) z x colour u old ≡ rowAfter q b z at colour u (rowAfter p a z x colour u old)
+row-more z pos x colour a b at p q e same u old =
+    let m : (a + b) * z ≡ a * z + b * z = add-mul a b z in
+    ⊎-elim
+    (λ (l : u < x). row-left z pos x colour p (a + b) u old l
+    ∙ sym (row-left z pos at colour q b u _ (omega arith) ∙ row-left z pos x colour p a u old l))
+    (λ (g : x ≤ u). ⊎-elim
+    (λ (l : u < at). row-in z pos x colour p (a + b) u old g (omega arith)
+    ∙ sym (row-left z pos at colour q b u _ l ∙ row-in z pos x colour p a u old g (omega arith)))
+    (λ (h : at ≤ u). ⊎-elim
+    (λ (l : u < at + b * z).
+    let j : (u - at) / z < b = div-lt-iff-lt-mul {k = z} pos .1 (omega arith) in
+    let d : u - x ≡ (u - at) + a * z = omega arith in
+    let r : (u - x) / z ≡ a + (u - at) / z = ap (λ (n : ℕ). n / z) d ∙ add-mul-div-right (u - at) a pos ∙ omega arith in
+    row-in z pos x colour p (a + b) u old g (omega arith) ∙ rw (r, ← same ((u - at) / z) j)
+    (sym (row-in z pos at colour q b u _ h l ∙ ap (inked (q ((u - at) / z)) colour) (row-right z pos x colour p a u old (omega arith)))))
+    (λ (r : at + b * z ≤ u). row-right z pos x colour p (a + b) u old (omega arith)
+    ∙ sym (row-right z pos at colour q b u _ r ∙ row-right z pos x colour p a u old (omega arith)))
+    (split u (at + b * z)))
+    (split u at))
+    (split u x)
+
+-- ---- one pixel, z wide
+
+pub pixel-none : (pixel z x colour u old : ℕ) → pixel ≡ 0 → pixelAfter pixel z x colour u old ≡ old
+unfolding pixelAfter inked
+pixel-none pixel z x colour u old e = rw (eq-eqb pixel 0 e) (⊎-elim
+    (λ (l : u < x). run-left x (x + z) old u old l)
+    (λ (g : x ≤ u). ⊎-elim (λ (l : u < x + z). run-in x (x + z) old u old g l) (λ (r : x + z ≤ u). run-right x (x + z) old u old r) (split u (x + z)))
+    (split u x))
+
+pub pixel-run : (pixel z x colour u old : ℕ) → (pixel ≡ 0 → ⊥) → pixelAfter pixel z x colour u old ≡ runAfter x (x + z) colour u old
+unfolding pixelAfter inked
+pixel-run pixel z x colour u old e = rw (ne-eqb pixel 0 e)
+
+-- it is a row of one
+pub pixel-row : (z : ℕ) → 0 < z → (pixel x colour u old : ℕ) → pixelAfter pixel z x colour u old ≡ rowAfter (λ j. pixel) 1 z x colour u old
+unfolding pixelAfter
+pixel-row z pos pixel x colour u old = ⊎-elim
+    (λ (l : u < x). run-left x (x + z) _ u old l ∙ sym (row-left z pos x colour (λ j. pixel) 1 u old l))
+    (λ (g : x ≤ u). ⊎-elim
+    (λ (l : u < x + z). run-in x (x + z) _ u old g l ∙ sym (row-in z pos x colour (λ j. pixel) 1 u old g (omega arith)))
+    (λ (r : x + z ≤ u). run-right x (x + z) _ u old r ∙ sym (row-right z pos x colour (λ j. pixel) 1 u old (omega arith)))
+    (split u (x + z)))
+    (split u x)
+
+-- ---- a string's pixels, a character at a time
+
+pub stringPixel-at : (strings font : List ℕ) (n row i j : ℕ) → j < 8
+    → pixelOf (glyphRow font (character strings n i) row) j ≡ stringPixel strings font n row (8 * i + j)
+unfolding stringPixel
+stringPixel-at strings font n row i j h =
+    let a : (8 * i + j) / 8 ≡ i = omega arith in let b : (8 * i + j) % 8 ≡ j = omega arith in rw (a, b)
+
+-- ---- the rows of a text
+
+module _ (strings font : List ℕ) (n z x y colour v : ℕ) where
+  pub text-above : v < y → (u old : ℕ) → textAfter strings font n z x y colour v u old ≡ old
+  unfolding textAfter
+  text-above h u old = simp (lt-leb y v h, both-none)
+
+  pub text-below : 0 < z → y + 8 * z ≤ v → (u old : ℕ) → textAfter strings font n z x y colour v u old ≡ old
+  unfolding textAfter
+  text-below pos h u old =
+      let q : 8 ≤ (v - y) / z = le-div-iff-mul-le {k = z} pos .1 (omega arith) in simp (le-ltb ((v - y) / z) 8 q, both-none)
+
+  pub text-number : 7 < n → (u old : ℕ) → textAfter strings font n z x y colour v u old ≡ old
+  unfolding textAfter
+  text-number h u old = simp (le-ltb n 8 h)
+
+  pub text-row : 0 < z → y ≤ v → v < y + 8 * z → n ≤ 7 → (u old : ℕ)
+      → stringAfter strings font n ((v - y) / z) z x colour u old ≡ textAfter strings font n z x y colour v u old
+  unfolding textAfter
+  text-row pos a b c u old =
+      let q : (v - y) / z < 8 = div-lt-iff-lt-mul {k = z} pos .1 (omega arith) in
+      simp (lt-ltb n 8 (omega arith), le-leb y v a, lt-ltb ((v - y) / z) 8 q)
+
+pub row-lt : (z y v : ℕ) → 0 < z → v < y + 8 * z → y ≤ v → (v - y) / z < 8
+row-lt z y v pos h g = div-lt-iff-lt-mul {k = z} pos .1 (omega arith)
+
+-- ---- the bits of a glyph's row
+
+module _ (font : List ℕ) (c row : ℕ) where
+  pub glyph-low : {n : ℕ} → n ≡ c → n < 32 → 0 ≡ glyphRow font c row
+  unfolding glyphRow
+  glyph-low e h = simp (lt-leb 32 c (omega arith))
+
+  pub glyph-high : {n : ℕ} → n ≡ c → 127 < n → 0 ≡ glyphRow font c row
+  unfolding glyphRow
+  glyph-high e h = simp (lt-leb c 127 (omega arith), both-none)
+
+  pub glyph-in : {n : ℕ} → n ≡ c → 32 ≤ n → n ≤ 127 → getD font (8 * (n - 32) + row) 0 ≡ glyphRow font c row
+  unfolding glyphRow
+  glyph-in e a b = rw e (simp (le-leb 32 c (omega arith), le-leb c 127 (omega arith)))

@@ -1,0 +1,67 @@
+-- `boxes::draw_box` meets its contract: the words read are the instruction's, and a row above or below
+-- the box is left as it is. Assumes nothing.
+use borrow.Author.Needs.{needs}
+use Rattle.draw.proofs.LineLaws.{box-line-above, box-line-below, box-line}
+use Rattle.draw.proofs.boxes.draw_box.Statement.{statement}
+use Rattle.draw.proofs.boxes.draw_box.Tie as tie
+
+mul-word : tie.Need-mul-word
+mul-word c = search needs
+
+add-word : tie.Need-add-word
+add-word c = search needs
+
+word-requires : tie.Need-word-requires
+word-requires c κs = search needs
+
+returns : tie.Need-returns
+returns c = search (box-line-above, needs)
+
+returns-2 : tie.Need-returns-2
+returns-2 c = search (box-line-below, needs)
+
+mul-word-2 : tie.Need-mul-word-2
+mul-word-2 c = search needs
+
+word-requires-2 : tie.Need-word-requires-2
+word-requires-2 c κs = search needs
+
+mul-word-3 : tie.Need-mul-word-3
+mul-word-3 c = search needs
+
+add-word-2 : tie.Need-add-word-2
+add-word-2 c = search needs
+
+word-requires-3 : tie.Need-word-requires-3
+word-requires-3 c κs = search needs
+
+cast-box-row : tie.Need-cast-box-row
+cast-box-row c = search needs
+
+box-row-requires : tie.Need-box-row-requires
+box-row-requires c κs = search needs
+
+same-length : tie.Need-same-length
+same-length c = search needs
+
+returns-3 : tie.Need-returns-3
+returns-3 c = search (box-line, needs)
+
+pub draw-box-spec : {M : Type 1} → statement M
+draw-box-spec =
+    tie.close
+    (tie.spec
+    mul-word
+    add-word
+    word-requires
+    returns
+    returns-2
+    mul-word-2
+    word-requires-2
+    mul-word-3
+    add-word-2
+    word-requires-3
+    cast-box-row
+    box-row-requires
+    same-length
+    returns-3)

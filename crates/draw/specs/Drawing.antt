@@ -1,0 +1,50 @@
+-- An instruction list and the colour index at (u, v) after it: 01 "Graphics layers". Coordinates
+-- "count from the layer's corner". Assumes nothing.
+use mathlib.Core.Path.{_≡_}
+use Prim.Native.Nat.{ℕ, zero, suc, _*_}
+use mathlib.Core.Bool.{Bool}
+use mathlib.Core.List.{List}
+use lib.ListN.{length}
+use lib.Dec.{ltb, eqb}
+use Rattle.lists.specs.Choice.{pick}
+use Rattle.lists.specs.Zero.{zeroFrom}
+use Rattle.tables.specs.Geometry as geometry
+use Rattle.draw.specs.Instruction.{opcode}
+use Rattle.draw.specs.Box.{boxOf}
+use Rattle.draw.specs.Text.{textOf}
+use Rattle.draw.specs.declared.ListEnd.{ListEnd}
+
+-- the three tables, each as long as 01 "Tables" has it
+pub record Tables (ins strings font : List ℕ) : Type 0 where
+  pub ins-long : length ins ≡ geometry.instructions * geometry.instructionLen
+  pub strings-long : length strings ≡ geometry.strings * geometry.stringLen
+  pub font-long : length font ≡ geometry.glyphs * geometry.glyphLen
+
+module _ (ins strings font : List ℕ) where
+  -- 01 "Graphics layers": "10 is a box, 12 text, 14 a box and then text over it. All others do nothing,
+  -- and other bits count for nothing.": what instruction k makes of what stood there
+  unfoldable pub drawnBy : ℕ → ℕ → ℕ → ℕ → ℕ
+  drawnBy k v u old =
+      pick (eqb (opcode ins k) 10) (boxOf ins k v u old)
+      (pick (eqb (opcode ins k) 12) (textOf ins strings font k v u old)
+      (pick (eqb (opcode ins k) 14) (textOf ins strings font k v u (boxOf ins k v u old)) old))
+
+  -- "Every pixel begins with colour index 0." "later ones overwrite": after the first n instructions
+  unfoldable pub drawnTo : ℕ → ℕ → ℕ → ℕ
+  drawnTo zero v u = 0
+  drawnTo (suc n) v u = drawnBy n v u (drawnTo n v u)
+
+-- "The list runs to the first END or through all 48 instructions": "Opcode 0 ends (000)."
+unfoldable pub countOf : List ℕ → ℕ
+countOf ins = zeroFrom geometry.instructions (opcode ins) 0
+
+-- "No END means that painting the layer sets error bit 4n"
+unfoldable pub endedOf : List ℕ → Bool
+endedOf ins = ltb (countOf ins) geometry.instructions
+
+abbrev pub endOf : List ℕ → ListEnd
+endOf ins = record { found = endedOf ins; count = countOf ins }
+
+-- the colour index at (u, v), by rows
+unfoldable pub indexAt : List ℕ → List ℕ → List ℕ → ℕ → ℕ → ℕ
+indexAt ins strings font v u = drawnTo ins strings font (countOf ins) v u

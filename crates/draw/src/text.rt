@@ -1,0 +1,113 @@
+// A row of a text: its characters from left to right, each a row of its glyph.
+ghost use mathlib.Core.Path.{_≡_};
+ghost use Prim.Native.Nat.{_+_, _*_, _≤_, _<_};
+ghost use lib.ListN.{length};
+ghost use Rattle.lists.specs.Tab.{each};
+ghost use Rattle.tables.specs.Geometry as geometry;
+ghost use Rattle.draw.specs.Text.{glyphRow, pixelOf, rowAfter, stringAfter, textOf};
+ghost use Rattle.draw.specs.Drawing.{Tables};
+ghost use Rattle.draw.specs.Rows.{pixelAfter};
+use crate::instruction::scale;
+use crate::instruction::wide;
+use crate::instruction::word;
+use crate::runs::fill_run;
+
+// The bits of a row of a character's glyph; none for a character without one.
+fn glyph_row(font: &[u8], c: u8, row: usize) -> u8
+    requires { ⌜ (length (now font) ≡ geometry.glyphs * geometry.glyphLen) × (row < 8) ⌝ }
+    ensures { λ r. ⌜ r ≡ glyphRow (now (font .entry)) c row ⌝ }
+{
+    let n = wide(c);
+    if n < 32 {
+        return 0;
+    }
+    if 127 < n {
+        return 0;
+    }
+    font[8 * (n - 32) + row]
+}
+
+// A glyph's pixel, the top bit leftmost.
+fn pixel(bits: u8, column: usize) -> u8
+    requires { ⌜ column < 8 ⌝ }
+    ensures { λ r. ⌜ r ≡ pixelOf bits column ⌝ }
+{
+    let rest = bits >> (7 - column);
+    rest % 2
+}
+
+// One pixel of a glyph, z wide.
+fn draw_pixel(line: &mut [u8], pixel: u8, z: usize, x: usize, colour: u8)
+    requires { ⌜ (z ≤ 8) × (x < 8192) ⌝ }
+    ensures { λ _. ⌜ now (line .exit) ≡ each (pixelAfter pixel z x colour) (now (line .entry)) ⌝ }
+{
+    if pixel == 0 {
+        return;
+    }
+    fill_run(line, x, x + z, colour);
+}
+
+// A row of a glyph, pixel by pixel.
+fn draw_cell(line: &mut [u8], bits: u8, z: usize, x: usize, colour: u8)
+    requires { ⌜ (0 < z) × (z ≤ 8) × (x < 8000) ⌝ }
+    ensures { λ _. ⌜ now (line .exit) ≡ each (rowAfter (pixelOf bits) 8 z x colour) (now (line .entry)) ⌝ }
+{
+    let mut column = 0;
+    let mut at = x;
+    while column < 8 {
+        draw_pixel(line, pixel(bits, column), z, at, colour);
+        at += z;
+        column += 1;
+    }
+}
+
+// A row of string n, character by character up to the first zero byte.
+fn draw_string(
+    line: &mut [u8],
+    strings: &[u8],
+    font: &[u8],
+    n: usize,
+    row: usize,
+    z: usize,
+    x: usize,
+    colour: u8,
+)
+    requires { ⌜ (length (now strings) ≡ geometry.strings * geometry.stringLen) × (length (now font) ≡ geometry.glyphs * geometry.glyphLen) ⌝ }
+    requires { ⌜ (n < geometry.strings) × (row < 8) × (0 < z) × (z ≤ 8) × (x < 4096) ⌝ }
+    ensures { λ _. ⌜ now (line .exit) ≡ each (stringAfter (now (strings .entry)) (now (font .entry)) n row z x colour) (now (line .entry)) ⌝ }
+{
+    let mut i = 0;
+    let mut at = x;
+    while i < 32 {
+        let c = strings[32 * n + i];
+        if c == 0 {
+            return;
+        }
+        draw_cell(line, glyph_row(font, c, row), z, at, colour);
+        at += 8 * z;
+        i += 1;
+    }
+}
+
+// Row v of the text of instruction k. A row beside the text costs one word and two tests.
+pub fn draw_text(line: &mut [u8], ins: &[u8], strings: &[u8], font: &[u8], k: usize, v: usize)
+    requires { ⌜ Tables (now ins) (now strings) (now font) × (k < geometry.instructions) ⌝ }
+    ensures { λ _. ⌜ now (line .exit) ≡ each (textOf (now (ins .entry)) (now (strings .entry)) (now (font .entry)) k v) (now (line .entry)) ⌝ }
+{
+    let w2 = word(ins, 16 * k + 8);
+    let y = w2 % 4096;
+    let z = scale(w2 / 1073741824);
+    if v < y {
+        return;
+    }
+    if y + 8 * z <= v {
+        return;
+    }
+    let n = word(ins, 16 * k + 4) % 256;
+    if 7 < n {
+        return;
+    }
+    let x = word(ins, 16 * k) % 4096;
+    let colour = word(ins, 16 * k + 12) / 256 % 256 % 16;
+    draw_string(line, strings, font, n, (v - y) / z, z, x, colour as u8);
+}

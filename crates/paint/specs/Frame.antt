@@ -1,0 +1,88 @@
+-- What fill, a band and a whole frame answer and leave: 01 "Painting", "Answers by number".
+-- Assumes nothing.
+use Prim.Native.Nat.{ℕ, _*_, _%_}
+use mathlib.Core.List.{List}
+use lib.ListN.{length}
+use lib.Dec.{eqb, leb}
+use Rattle.lists.specs.Choice.{pick, pickList, both, either, orElse}
+use Rattle.lists.specs.Tab.{tab}
+use Rattle.answers.specs.Answers.{done, tablesLength, noSize, outputLength, picturesLength, noBand}
+use Rattle.words.specs.Fields.{widthOf, heightOf, groundOf}
+use Rattle.words.specs.Pictures.{picturesLen}
+use Rattle.tables.specs.Geometry.{tablesLen}
+use Rattle.paint.specs.Scene.{Scene}
+use Rattle.paint.specs.Band.{bandOf, errorsOf}
+use Rattle.paint.specs.declared.Painted.{Painted}
+
+-- ---- refusals
+
+-- 15: "lower end above upper, or upper above 8"
+abbrev pub bandRefusal : ℕ → ℕ → ℕ
+bandRefusal a b = pick (both (leb a b) (leb b 8)) done noBand
+
+-- 12: "active output size still 0"
+abbrev pub sizeRefusal : List ℕ → ℕ
+sizeRefusal w = pick (either (eqb (widthOf w) 0) (eqb (heightOf w) 0)) noSize done
+
+-- 13: "output not 4·width·height bytes"
+abbrev pub frameLen : List ℕ → ℕ
+frameLen w = 4 * (widthOf w * heightOf w)
+
+abbrev pub outputRefusal : List ℕ → List ℕ → ℕ
+outputRefusal w out = pick (eqb (length out) (frameLen w)) done outputLength
+
+-- 6: "tables not 29,696 bytes"
+abbrev pub tablesRefusal : List ℕ → ℕ
+tablesRefusal tables = pick (eqb (length tables) tablesLen) done tablesLength
+
+-- 14: "pictures of the wrong total length"
+abbrev pub picturesRefusal : List ℕ → List ℕ → ℕ
+picturesRefusal w pictures = pick (eqb (length pictures) (picturesLen w)) done picturesLength
+
+-- fill: 12, 13
+unfoldable pub fillRefusal : List ℕ → List ℕ → ℕ
+fillRefusal w out = orElse (sizeRefusal w) (outputRefusal w out)
+
+-- "Paint 15, 12, 13, 6, 14."
+unfoldable pub paintRefusal : Scene → ℕ → ℕ → List ℕ → ℕ
+paintRefusal s a b out =
+    orElse (bandRefusal a b)
+    (orElse (sizeRefusal (s .words))
+    (orElse (outputRefusal (s .words) out)
+    (orElse (tablesRefusal (s .tables)) (picturesRefusal (s .words) (s .pictures)))))
+
+-- ---- fill
+
+-- 01 "Painting": "Fill writes the background to every pixel."; "Output alpha is always 255 once filled."
+unfoldable pub fillByte : List ℕ → ℕ → ℕ
+fillByte w i = pick (eqb (i % 4) 3) 255 (groundOf w (i % 4))
+
+unfoldable pub fillOf : List ℕ → List ℕ
+fillOf w = tab (frameLen w) (fillByte w)
+
+unfoldable pub fillAfter : List ℕ → List ℕ → List ℕ
+fillAfter w out = pickList (eqb (fillRefusal w out) done) (fillOf w) out
+
+-- ---- a band
+
+unfoldable pub paintAfter : Scene → ℕ → ℕ → List ℕ → List ℕ
+paintAfter s a b out = pickList (eqb (paintRefusal s a b out) done) (bandOf s a b out) out
+
+unfoldable pub paintTold : Scene → ℕ → ℕ → List ℕ → ℕ → Painted
+paintTold s a b out errors =
+    record {
+      answer = paintRefusal s a b out;
+      errors = pick (eqb (paintRefusal s a b out) done) (errorsOf s a b errors) errors;
+    }
+
+-- ---- a whole frame
+
+-- "A whole frame is a fill and band 0..8, refused as paint."
+unfoldable pub frameOf : Scene → List ℕ
+frameOf s = bandOf s 0 8 (fillOf (s .words))
+
+unfoldable pub frameAfter : Scene → List ℕ → List ℕ
+frameAfter s out = pickList (eqb (paintRefusal s 0 8 out) done) (frameOf s) out
+
+unfoldable pub frameTold : Scene → List ℕ → ℕ → Painted
+frameTold s out errors = paintTold s 0 8 out errors

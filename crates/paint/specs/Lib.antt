@@ -1,0 +1,5 @@
+-- What `src/` promises. Assumes nothing.
+pub mod Scene
+pub mod Pixel
+pub mod Band
+pub mod Frame
