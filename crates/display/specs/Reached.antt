@@ -9,7 +9,6 @@ use Rattle.answers.specs.Answers.{done}
 use Rattle.words.specs.Check.{checkOf}
 use Rattle.tables.specs.Selection.{endOf}
 use Rattle.display.specs.declared.Display.{Display}
-use Rattle.display.specs.declared.Told.{Told}
 use Rattle.display.specs.State.{fresh, writeOf, selectOf, toggleOf, startOf}
 use Rattle.display.specs.Put.{putOf}
 

@@ -29,10 +29,19 @@ fn show_fade() {
     show(b"fade at 102: ", mix::fade(0, 255, 4, 100, 102) as u64);
     show(b"fade at 103: ", mix::fade(0, 255, 4, 100, 103) as u64);
     show(b"fade at 104: ", mix::fade(0, 255, 4, 100, 104) as u64);
-    show(b"fade over the wrap: ", mix::fade(0, 255, 4, 4294967294, 0) as u64);
+    show(
+        b"fade over the wrap: ",
+        mix::fade(0, 255, 4, 4294967294, 0) as u64,
+    );
     show(b"fade of 3, e 1: ", mix::fade(255, 0, 3, 0, 1) as u64);
-    show(b"fade at e 2147483647: ", mix::fade(0, 255, 4, 0, 2147483647) as u64);
-    show(b"fade at e 2147483648: ", mix::fade(0, 255, 4, 0, 2147483648) as u64);
+    show(
+        b"fade at e 2147483647: ",
+        mix::fade(0, 255, 4, 0, 2147483647) as u64,
+    );
+    show(
+        b"fade at e 2147483648: ",
+        mix::fade(0, 255, 4, 0, 2147483648) as u64,
+    );
 }
 
 // A screen of 1920 by 1080 with layer 0 at x 1900, started.

@@ -7,7 +7,7 @@ use Prim.Native.Nat.{ℕ, zero, suc, _≤_, _<_, zero-le, suc-le-suc}
 use native.Mathlib.Decide.{ℕ-discrete}
 use native.Mathlib.Omega.{arith}
 use borrow.Author.Tests.{ne-eqb}
-use Rattle.lists.specs.Choice.{pick, pickList, both, either, orElse}
+use Rattle.lists.specs.Choice.{pick, pickList, both, orElse}
 
 -- two numbers: the one is below the other or not; they are the same or not
 pub split : (i k : ℕ) → (i < k) ⊎ (k ≤ i)

@@ -1,12 +1,11 @@
 -- Laws of `firstOf`, by which a loop that leaves at the first refusal is proved. Assumes nothing.
 use mathlib.Core.Path.{_≡_, refl, sym, _∙_}
-use mathlib.Core.Logic.{_⊎_, ⊎-elim}
+use mathlib.Core.Logic.{⊎-elim}
 use Prim.Native.Nat.{ℕ, zero, suc, _+_, _<_, _≤_}
 use native.Mathlib.Decide.{le-ind}
 use native.Mathlib.Numerals.{add-one}
 use native.Mathlib.Omega.{arith}
 use borrow.Author.Tests.{ne-eqb}
-use Rattle.lists.specs.Choice.{orElse}
 use Rattle.lists.specs.Runs.{firstOf}
 use Rattle.lists.proofs.Choice.{same-or, orElse-left, orElse-right, orElse-none}
 

@@ -4,7 +4,7 @@ use mathlib.Core.Bool.{Bool, true, false}
 use Prim.Native.Nat.{ℕ, _+_, _-_, _*_, _/_, _%_, _^_, _≤_, _<_, min, max}
 use native.Mathlib.Nat.{mul-comm, add-mul, div-lt-iff-lt-mul, le-div-iff-mul-le}
 use native.Mathlib.Omega.{arith}
-use borrow.Author.Tests.{eqb-false, leb-false, ne-eqb, le-leb, lt-leb}
+use borrow.Author.Tests.{leb-false, ne-eqb, le-leb, lt-leb}
 use lib.Dec.{eqb, leb}
 use Rattle.lists.specs.Choice.{pick, either}
 use Rattle.mix.specs.Fade.{elapsed, negative, onWay, fadeAt, fadeOf}

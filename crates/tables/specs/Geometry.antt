@@ -1,7 +1,7 @@
 -- Where everything stands in the lent table buffer: 01 "Tables". Every number of it stands here
 -- once. Assumes nothing.
 use Prim.Native.Nat.{ℕ, _+_, _*_}
-use mathlib.Core.List.{List, [], _∷_}
+use mathlib.Core.List.{[], _∷_}
 use lib.ListN.{getD}
 
 -- 01 "Tables": "The lent table buffer has 29,696 bytes: controller g (which serves layer g) at

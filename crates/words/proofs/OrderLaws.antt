@@ -2,9 +2,9 @@
 -- by one. Assumes nothing.
 use mathlib.Core.Path.{_≡_, refl, sym, ap, ap₂, _∙_}
 use mathlib.Core.Bool.{Bool, true, false}
-use mathlib.Core.Logic.{_⊎_, ⊎-elim}
+use mathlib.Core.Logic.{⊎-elim}
 use mathlib.Core.List.{List, [], _∷_, _++_, append-assoc, append-nil}
-use Prim.Native.Nat.{ℕ, zero, suc, _+_, _-_, _*_, _≤_, _<_}
+use Prim.Native.Nat.{ℕ, zero, suc, _+_, _-_, _≤_, _<_}
 use native.Mathlib.Numerals.{add-one}
 use native.Mathlib.Omega.{arith}
 use borrow.Author.Tests.{ne-eqb}
@@ -14,7 +14,7 @@ use lib.Dec.{eqb}
 use Rattle.lists.specs.Choice.{pick, pickList, both}
 use Rattle.lists.specs.Runs.{sumOf}
 use Rattle.lists.proofs.Choice.{same-or}
-use Rattle.lists.proofs.Sum.{sum-cong, sum-le, sum-room, sum-swap}
+use Rattle.lists.proofs.Sum.{sum-le, sum-room, sum-swap}
 use Rattle.words.specs.declared.order.Order.{Order}
 use Rattle.words.specs.Fields.{layerOf}
 use Rattle.words.specs.Order.{here, layersAt, layersBelow, found, orderOf, packed}

@@ -1,15 +1,14 @@
 -- Where the pictures stand: their lengths stay small, and a start is the sum so far.
 -- Assumes nothing.
 use mathlib.Core.Path.{_≡_, refl, sym, ap, ap₂, _∙_}
-use mathlib.Core.Bool.{Bool, true, false, not}
+use mathlib.Core.Bool.{not}
 use mathlib.Core.List.{List}
 use Prim.Native.Nat.{ℕ, _+_, _*_, _≤_, _<_}
 use native.Mathlib.Nat.{mul-le-mul}
 use native.Mathlib.Omega.{arith}
-use lib.ListN.{length, set, replicate}
-use Rattle.lists.specs.Choice.{pick, both}
+use lib.ListN.{set, replicate}
+use Rattle.lists.specs.Choice.{both}
 use Rattle.lists.specs.Runs.{sumOf}
-use Rattle.lists.specs.Tab.{tab}
 use Rattle.lists.proofs.Choice.{pick-keeps}
 use Rattle.lists.proofs.Sum.{sum-none, sum-step, sum-le}
 use Rattle.lists.proofs.Upto.{Upto, upto-none, upto-set, upto-done}

@@ -1,7 +1,7 @@
 // The fields of the 52 words by name: 01 "Registers". No other file shifts or masks a word.
 ghost use mathlib.Core.Path.{_≡_};
 ghost use Prim.Native.Nat.{_<_};
-ghost use Rattle.words.specs.Fields.{shownOf, updateOf, widthOf, heightOf, groundOf, activeBankOf, layerOf, lowOf, highOf};
+ghost use Rattle.words.specs.Fields.{shownOf, updateOf, widthOf, heightOf, activeBankOf, layerOf, lowOf, highOf};
 
 // The six words of a layer, read.
 pub struct Layer {

@@ -1,12 +1,11 @@
 -- `mix::fade` meets its contract: below the length the sum stays under 2 ^ 24 and a half, so no step
 -- wraps; each `return` is a case of `fadeAt` at the e that the wrapping difference gives.
 -- Assumes nothing.
-use mathlib.Core.Path.{_≡_, sym, ap, _∙_}
-use Prim.Native.Nat.{_+_, _-_, _*_, _≤_, _<_, _^_}
-use native.Mathlib.Nat.{mul-comm}
+use mathlib.Core.Path.{_≡_, sym}
+use Prim.Native.Nat.{_+_, _-_, _*_, _≤_}
 use native.Mathlib.Omega.{arith}
 use borrow.Author.Needs.{needs}
-use Rattle.mix.specs.Fade.{elapsed, fadeAt, fadeOf}
+use Rattle.mix.specs.Fade.{elapsed, fadeOf}
 use Rattle.mix.proofs.FadeLaws.{fadeAt-still, fadeAt-before, fadeAt-ended, fadeAt-way, is-elapsed, way-sum-le, way-le}
 use Rattle.mix.proofs.fade.Statement.{statement}
 use Rattle.mix.proofs.fade.Tie as tie

@@ -67,7 +67,7 @@ shl-self : tie.Need-shl-self
 shl-self c = search needs
 
 returns-5 : tie.Need-returns-5
-returns-5 c = 
+returns-5 c =
     let d = c .before .before .before .before .before .before .before .before .before .before .args .t1 in
     let g : c .controller-of .result ≡ d .selection / 8 % 8 = c .controller-of .ensures in
     put-full _ _ _ _

@@ -1,6 +1,5 @@
 -- `display::Display::select` meets its contract: the test says which case of `selectOf` holds.
 -- Assumes nothing.
-use borrow.Author.Needs.{needs}
 use Rattle.lists.proofs.Tests.{tests}
 use Rattle.display.proofs.Display.select.Statement.{statement}
 use Rattle.display.proofs.Display.select.Tie as tie

@@ -1,9 +1,8 @@
 -- `display::Display::start` meets its contract: at each `return` the tests that led there, and what
 -- the check and the wrapping sum ensure, say which case of `startOf` holds. Assumes nothing.
 use borrow.Author.Needs.{needs}
-use Rattle.lists.proofs.Tests.{tests}
 use borrow.Author.Tests.{not-true, not-false}
-use mathlib.Core.Path.{_≡_, sym, _∙_}
+use mathlib.Core.Path.{sym, _∙_}
 use Rattle.display.proofs.StartLaws.{start-idle, start-refused, start-taken}
 use Rattle.display.proofs.Display.start.Statement.{statement}
 use Rattle.display.proofs.Display.start.Tie as tie

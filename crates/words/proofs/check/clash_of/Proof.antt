@@ -1,6 +1,5 @@
 -- `words::check::clash_of` meets its contract: each `return` is a case of `clashOf`.
 -- Assumes nothing.
-use borrow.Author.Needs.{needs}
 use Rattle.lists.proofs.Tests.{tests}
 use Rattle.words.specs.Check.{clashOf}
 use borrow.Author.Tests.{not-true, not-false}

@@ -1,5 +1,4 @@
 -- `words::check::or_else` meets its contract: the test is the definition's. Assumes nothing.
-use borrow.Author.Needs.{needs}
 use Rattle.lists.proofs.Tests.{tests}
 use Rattle.words.proofs.check.or_else.Statement.{statement}
 use Rattle.words.proofs.check.or_else.Tie as tie

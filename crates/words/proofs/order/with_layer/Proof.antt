@@ -1,11 +1,12 @@
 -- `words::order::with_layer` meets its contract: of eight layers each has one depth, so there is room
 -- for one that is here. Assumes nothing.
 use borrow.Author.Needs.{needs}
-use mathlib.Core.Path.{_≡_, sym, _∙_}
-use mathlib.Core.Bool.{true, false}
+use mathlib.Core.Path.{_≡_, sym, ap, _∙_}
+use mathlib.Core.Bool.{true}
 use Prim.Native.Nat.{_<_}
 use native.Mathlib.Omega.{arith}
 use denote.Ref.{now}
+use Rattle.words.specs.declared.fields.Layer.{Layer}
 use Rattle.words.specs.Fields.{layerOf}
 use Rattle.words.specs.Order.{here}
 use Rattle.words.proofs.OrderLaws.{order-room, order-taken, order-left}
@@ -18,8 +19,12 @@ layer-of-requires c κs = search needs
 is-here-requires : tie.Need-is-here-requires
 is-here-requires c κs = search needs
 
+-- what `is_here` answers is whether the layer is here
+asked : (c : tie.After-is-here) → c .is-here .result ≡ here (layerOf (now (c .before .before .args .w)) (c .before .before .args .n)) (c .before .before .args .d)
+asked c = c .is-here .ensures ∙ ap (λ (l : Layer). here l (c .before .before .args .d)) (c .before .layer-of .ensures)
+
 seen : (c : tie.Then1) → here (layerOf (now (c .before .before .before .args .w)) (c .before .before .before .args .n)) (c .before .before .before .args .d) ≡ true
-seen c = rw (← c .before .before .layer-of .ensures, ← c .before .is-here .ensures) (c .if1 .taken)
+seen c = sym (asked (c .before)) ∙ c .if1 .taken
 
 room : (c : tie.Then1) → c .before .before .before .args .t1 .count < 8
 room c = order-room _ _ _ _ (omega arith) (c .before .before .before .pre .2) (seen c)
@@ -37,7 +42,7 @@ returns : tie.Need-returns
 returns c = order-taken _ _ _ _ (omega arith) (c .before .before .before .pre .2) (seen c)
 
 returns-2 : tie.Need-returns-2
-returns-2 c = order-left _ _ _ _ (omega arith) (c .before .before .before .pre .2) (rw (← c .before .before .layer-of .ensures, ← c .before .is-here .ensures) (c .if1 .left))
+returns-2 c = order-left _ _ _ _ (omega arith) (c .before .before .before .pre .2) (sym (asked (c .before)) ∙ c .if1 .left)
 
 pub with-layer-spec : {M : Type 1} → statement M
 with-layer-spec =

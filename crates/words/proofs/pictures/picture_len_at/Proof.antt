@@ -1,7 +1,6 @@
 -- `words::pictures::picture_len_at` meets its contract: a layer's sizes have 12 bits.
 -- Assumes nothing.
 use borrow.Author.Needs.{needs}
-use mathlib.Core.Path.{_≡_}
 use Rattle.words.specs.Pictures.{pictureLenAt}
 use Rattle.words.proofs.PictureLaws.{pictureLenAt-le}
 use Rattle.words.proofs.pictures.picture_len_at.Statement.{statement}
