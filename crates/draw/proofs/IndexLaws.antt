@@ -21,7 +21,7 @@ countOf-le ins = zeroFrom-le instructions (opcode ins) 0
 -- ---- below 16
 
 pick-lt : (t : Bool) {x y : ℕ} → x < 16 → y < 16 → pick t x y < 16
-pick-lt t hx hy = pick-keeps (λ (m : ℕ). m < 16) t (λ _. hx) (λ _. hy)
+pick-lt t hx hy = pick-keeps (λ (m : ℕ). m < 16) t _ _ (λ _. hx) (λ _. hy)
 
 mod-16 : (n : ℕ) → n % 16 < 16
 mod-16 n = omega arith

@@ -3,11 +3,11 @@ use mathlib.Core.Path.{_≡_, refl, sym}
 use mathlib.Core.Bool.{Bool, true, false, false≢true}
 use mathlib.Core.Logic.{_⊎_, inl, inr, ⊎-elim}
 use mathlib.Core.List.{List}
-use Prim.Native.Nat.{ℕ, zero, suc, _≤_, _<_, zero-le, suc-le-suc}
+use Prim.Native.Nat.{ℕ, zero, suc, _%_, _≤_, _<_, zero-le, suc-le-suc}
 use native.Mathlib.Decide.{ℕ-discrete}
 use native.Mathlib.Omega.{arith}
 use borrow.Author.Tests.{ne-eqb}
-use Rattle.lists.specs.Choice.{pick, pickList, both, orElse}
+use Rattle.lists.specs.Choice.{pick, pickList, both, either, orElse}
 
 -- two numbers: the one is below the other or not; they are the same or not
 pub split : (i k : ℕ) → (i < k) ⊎ (k ≤ i)
@@ -17,6 +17,10 @@ split (suc i) (suc k) = ⊎-elim (λ h. inl (suc-le-suc h)) (λ h. inr (suc-le-s
 
 pub same-or : (i k : ℕ) → (i ≡ k) ⊎ (i ≡ k → ⊥)
 same-or i k = elim (ℕ-discrete i k) [ yes e ↦ inl e | no n ↦ inr n ]
+
+-- a number is even or odd
+pub parity : (n : ℕ) → (n % 2 ≡ 0) ⊎ (n % 2 ≡ 1)
+parity n = ⊎-elim (λ (h : n % 2 < 1). inl (omega arith)) (λ (h : 1 ≤ n % 2). inr (omega arith)) (split (n % 2) 1)
 
 -- two choices by one test are the same where the chosen are
 pub pick-cong : (t : Bool) {x x′ y y′ : ℕ} → (t ≡ true → x ≡ x′) → (t ≡ false → y ≡ y′) → pick t x y ≡ pick t x′ y′

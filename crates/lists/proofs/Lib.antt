@@ -7,3 +7,6 @@ pub mod First
 pub mod Zero
 pub mod Sum
 pub mod Bits
+pub mod Digits
+pub mod Run
+pub mod Steps

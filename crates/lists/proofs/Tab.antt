@@ -1,12 +1,14 @@
 -- Laws of `tab` and `each`. Assumes nothing.
 use mathlib.Core.Path.{_≡_, refl, sym, ap, ap₂, _∙_}
-use mathlib.Core.List.{List, [], _∷_}
-use Prim.Native.Nat.{ℕ, zero, suc, _+_, _≤_, _<_}
+use mathlib.Core.Logic.{⊎-elim}
+use mathlib.Core.List.{List, [], _∷_, _++_}
+use Prim.Native.Nat.{ℕ, zero, suc, _+_, _-_, _≤_, _<_}
 use native.Mathlib.Nat.{le-of-suc-le-suc, not-suc-le-zero}
 use native.Mathlib.Omega.{arith}
-use lib.ListN.{length, getD, take, drop, length-drop}
-use lib.Seq.{ext-getD, getD-take, getD-drop, length-take-le}
+use lib.ListN.{length, getD, take, drop, length-append, length-drop, List·getD-append}
+use lib.Seq.{ext-getD, getD-take, getD-drop, getD-append-add, length-take-le}
 use Rattle.lists.specs.Tab.{tab, each}
+use Rattle.lists.proofs.Choice.{split}
 
 -- ---- `tab`
 
@@ -87,3 +89,43 @@ length-part l o n h = length-take-le n (drop o l) (simp length-drop (omega arith
 
 pub getD-part : (l : List ℕ) (o n i : ℕ) → i < n → getD (take n (drop o l)) i 0 ≡ getD l (o + i) 0
 getD-part l o n i h = getD-take n (drop o l) i 0 h ∙ getD-drop o l i 0
+
+-- ---- a part that was lent came back with the rule g of its own, and nothing else changed: one rule f
+
+module _ (f g : ℕ → ℕ → ℕ) (l part : List ℕ) (o n : ℕ) (fits : o + n ≤ length l) (e : part ≡ each g (take n (drop o l))) where
+  length-lent : length part ≡ n
+  length-lent = ap length e ∙ length-each g (take n (drop o l)) ∙ length-part l o n fits
+
+  getD-lent : (i : ℕ) → i < n → getD part i 0 ≡ g i (getD l (o + i) 0)
+  getD-lent i h =
+      ap (λ (x : List ℕ). getD x i 0) e ∙ getD-each g (take n (drop o l)) i (omega (arith, length-part l o n fits))
+      ∙ ap (g i) (getD-part l o n i h)
+
+  -- from o on
+  behind : ((i p : ℕ) → i < n → f (o + i) p ≡ g i p) → ((i p : ℕ) → o + n ≤ i → i < length l → f i p ≡ p)
+      → (j : ℕ) → o + j < length l → getD (part ++ drop n (drop o l)) j 0 ≡ f (o + j) (getD l (o + j) 0)
+  behind mid high j h = ⊎-elim
+      (λ (lt : j < n). List·getD-append part _ 0 j (omega (arith, length-lent)) ∙ getD-lent j lt ∙ sym (mid j _ lt))
+      (λ (ge : n ≤ j).
+      let q : j ≡ length part + (j - n) = omega (arith, length-lent) in
+      let r : o + (n + (j - n)) ≡ o + j = omega arith in
+      ap (λ (k : ℕ). getD (part ++ drop n (drop o l)) k 0) q ∙ getD-append-add part (drop n (drop o l)) (j - n) 0
+      ∙ getD-drop n (drop o l) (j - n) 0 ∙ getD-drop o l (n + (j - n)) 0 ∙ ap (λ (k : ℕ). getD l k 0) r
+      ∙ sym (high (o + j) _ (omega arith) h))
+      (split j n)
+
+  pub each-part : ((i p : ℕ) → i < n → f (o + i) p ≡ g i p) → ((i p : ℕ) → i < o → f i p ≡ p) → ((i p : ℕ) → o + n ≤ i → i < length l → f i p ≡ p)
+      → take o l ++ (part ++ drop n (drop o l)) ≡ each f l
+  each-part mid low high =
+      let long-o : length (take o l) ≡ o = length-take-le o l (omega arith) in
+      is-each l _ f
+      (simp (length-append, length-drop) (omega (arith, length-lent)))
+      (λ i h. ⊎-elim
+      (λ (lt : i < o). List·getD-append (take o l) _ 0 i (omega arith) ∙ getD-take o l i 0 lt ∙ sym (low i _ lt))
+      (λ (ge : o ≤ i).
+      let q : i ≡ length (take o l) + (i - o) = omega arith in
+      let r : o + (i - o) ≡ i = omega arith in
+      ap (λ (k : ℕ). getD (take o l ++ (part ++ drop n (drop o l))) k 0) q
+      ∙ getD-append-add (take o l) (part ++ drop n (drop o l)) (i - o) 0
+      ∙ behind mid high (i - o) (omega arith) ∙ ap (λ (k : ℕ). f k (getD l k 0)) r)
+      (split i o))

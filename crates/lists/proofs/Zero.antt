@@ -28,4 +28,4 @@ pub zeroFrom-le : (n : ℕ) (f : ℕ → ℕ) (k : ℕ) → zeroFrom n f k ≤ k
 unfolding zeroFrom
 zeroFrom-le zero f k = omega arith
 zeroFrom-le (suc n) f k =
-    pick-keeps (λ (m : ℕ). m ≤ k + suc n) (eqb (f k) 0) (λ _. omega arith) (λ _. omega (arith, zeroFrom-le n f (k + 1)))
+    pick-keeps (λ (m : ℕ). m ≤ k + suc n) (eqb (f k) 0) k (zeroFrom n f (k + 1)) (λ _. omega arith) (λ _. omega (arith, zeroFrom-le n f (k + 1)))

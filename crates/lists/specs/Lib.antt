@@ -3,3 +3,4 @@ pub mod Choice
 pub mod Tab
 pub mod Runs
 pub mod Zero
+pub mod Steps

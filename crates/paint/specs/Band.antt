@@ -1,6 +1,6 @@
 -- The layers of a band, one over another: 01 "Painting". A pixel's channel and the error word are the
 -- same fold with two steps. Assumes nothing.
-use Prim.Native.Nat.{ℕ, _+_, _-_, _*_, _/_, _%_, _^_}
+use Prim.Native.Nat.{ℕ, _-_, _*_, _/_, _%_, _^_}
 use mathlib.Core.Bool.{Bool, not}
 use mathlib.Core.List.{List}
 use lib.Dec.{eqb}
@@ -48,7 +48,7 @@ bandOf s a b out = pickList (shownOf (s .words)) (each (bandByte s a b) out) out
 
 -- 01 "Graphics layers": "No END means that painting the layer sets error bit 4n (000)."
 unfoldable pub missing : Scene → ℕ → Bool
-missing s n = both (layerOf (s .words) n .graphics) (not (endedOf (bankOf s 0 n)))
+missing s n = both (layerOf (s .words) n .graphics) (not (endedOf (bankOf (s .words) (s .tables) 0 n)))
 
 unfoldable pub markAt : Scene → ℕ → ℕ → ℕ
 markAt s n errors = pick (missing s n) (bitOr errors (2 ^ (4 * n))) errors

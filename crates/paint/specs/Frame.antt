@@ -14,7 +14,7 @@ use Rattle.paint.specs.Scene.{Scene}
 use Rattle.paint.specs.Band.{bandOf, errorsOf}
 use Rattle.paint.specs.declared.Painted.{Painted}
 
--- ---- refusals
+-- ---- refusals: of the words, the band's ends, and the lengths of output, tables and pictures
 
 -- 15: "lower end above upper, or upper above 8"
 abbrev pub bandRefusal : ℕ → ℕ → ℕ
@@ -28,28 +28,31 @@ sizeRefusal w = pick (either (eqb (widthOf w) 0) (eqb (heightOf w) 0)) noSize do
 abbrev pub frameLen : List ℕ → ℕ
 frameLen w = 4 * (widthOf w * heightOf w)
 
-abbrev pub outputRefusal : List ℕ → List ℕ → ℕ
-outputRefusal w out = pick (eqb (length out) (frameLen w)) done outputLength
+abbrev pub outputRefusal : List ℕ → ℕ → ℕ
+outputRefusal w out = pick (eqb out (frameLen w)) done outputLength
 
 -- 6: "tables not 29,696 bytes"
-abbrev pub tablesRefusal : List ℕ → ℕ
-tablesRefusal tables = pick (eqb (length tables) tablesLen) done tablesLength
+abbrev pub tablesRefusal : ℕ → ℕ
+tablesRefusal tables = pick (eqb tables tablesLen) done tablesLength
 
 -- 14: "pictures of the wrong total length"
-abbrev pub picturesRefusal : List ℕ → List ℕ → ℕ
-picturesRefusal w pictures = pick (eqb (length pictures) (picturesLen w)) done picturesLength
+abbrev pub picturesRefusal : List ℕ → ℕ → ℕ
+picturesRefusal w pictures = pick (eqb pictures (picturesLen w)) done picturesLength
 
 -- fill: 12, 13
-unfoldable pub fillRefusal : List ℕ → List ℕ → ℕ
+unfoldable pub fillRefusal : List ℕ → ℕ → ℕ
 fillRefusal w out = orElse (sizeRefusal w) (outputRefusal w out)
 
 -- "Paint 15, 12, 13, 6, 14."
-unfoldable pub paintRefusal : Scene → ℕ → ℕ → List ℕ → ℕ
-paintRefusal s a b out =
+unfoldable pub paintRefusal : List ℕ → ℕ → ℕ → ℕ → ℕ → ℕ → ℕ
+paintRefusal w a b out tables pictures =
     orElse (bandRefusal a b)
-    (orElse (sizeRefusal (s .words))
-    (orElse (outputRefusal (s .words) out)
-    (orElse (tablesRefusal (s .tables)) (picturesRefusal (s .words) (s .pictures)))))
+    (orElse (sizeRefusal w)
+    (orElse (outputRefusal w out) (orElse (tablesRefusal tables) (picturesRefusal w pictures))))
+
+-- of a scene and an output
+abbrev pub refusalOf : Scene → ℕ → ℕ → List ℕ → ℕ
+refusalOf s a b out = paintRefusal (s .words) a b (length out) (length (s .tables)) (length (s .pictures))
 
 -- ---- fill
 
@@ -61,18 +64,18 @@ unfoldable pub fillOf : List ℕ → List ℕ
 fillOf w = tab (frameLen w) (fillByte w)
 
 unfoldable pub fillAfter : List ℕ → List ℕ → List ℕ
-fillAfter w out = pickList (eqb (fillRefusal w out) done) (fillOf w) out
+fillAfter w out = pickList (eqb (fillRefusal w (length out)) done) (fillOf w) out
 
 -- ---- a band
 
 unfoldable pub paintAfter : Scene → ℕ → ℕ → List ℕ → List ℕ
-paintAfter s a b out = pickList (eqb (paintRefusal s a b out) done) (bandOf s a b out) out
+paintAfter s a b out = pickList (eqb (refusalOf s a b out) done) (bandOf s a b out) out
 
 unfoldable pub paintTold : Scene → ℕ → ℕ → List ℕ → ℕ → Painted
 paintTold s a b out errors =
     record {
-      answer = paintRefusal s a b out;
-      errors = pick (eqb (paintRefusal s a b out) done) (errorsOf s a b errors) errors;
+      answer = refusalOf s a b out;
+      errors = pick (eqb (refusalOf s a b out) done) (errorsOf s a b errors) errors;
     }
 
 -- ---- a whole frame
@@ -82,7 +85,7 @@ unfoldable pub frameOf : Scene → List ℕ
 frameOf s = bandOf s 0 8 (fillOf (s .words))
 
 unfoldable pub frameAfter : Scene → List ℕ → List ℕ
-frameAfter s out = pickList (eqb (paintRefusal s 0 8 out) done) (frameOf s) out
+frameAfter s out = pickList (eqb (refusalOf s 0 8 out) done) (frameOf s) out
 
 unfoldable pub frameTold : Scene → List ℕ → ℕ → Painted
 frameTold s out errors = paintTold s 0 8 out errors

@@ -3,3 +3,5 @@ pub mod Scene
 pub mod Pixel
 pub mod Band
 pub mod Frame
+pub mod Plan
+pub mod Lines

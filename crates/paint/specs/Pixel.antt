@@ -9,9 +9,10 @@ use Rattle.lists.specs.Choice.{pick, both}
 use Rattle.mix.specs.Blend.{blendOf}
 use Rattle.mix.specs.Fade.{fadeOf}
 use Rattle.words.specs.declared.fields.Layer.{Layer}
-use Rattle.words.specs.Fields.{activeBankOf, layerOf}
+use Rattle.words.specs.Fields.{layerOf}
 use Rattle.words.specs.Pictures.{pictureStart}
-use Rattle.tables.specs.Geometry.{colourLen, kindLen, bankAt}
+use Rattle.tables.specs.Geometry.{colourLen, kindLen}
+use Rattle.tables.specs.Selection.{activeAt}
 use Rattle.draw.specs.Drawing.{indexAt}
 use Rattle.paint.specs.Scene.{Scene}
 
@@ -19,16 +20,16 @@ use Rattle.paint.specs.Scene.{Scene}
 
 -- 01 "Tables": the bank of a kind (0 instruction, 1 colour, 2 text, 3 font) that word 3 names for
 -- controller n, "which serves layer n"
-unfoldable pub bankOf : Scene → ℕ → ℕ → List ℕ
-bankOf s kind n = take (kindLen kind) (drop (bankAt n (activeBankOf (s .words) kind n) kind) (s .tables))
+unfoldable pub bankOf : List ℕ → List ℕ → ℕ → ℕ → List ℕ
+bankOf w tables kind n = take (kindLen kind) (drop (activeAt w kind n) tables)
 
 -- 01 "Graphics layers": the colour index after the list
-unfoldable pub indexOf : Scene → ℕ → ℕ → ℕ → ℕ
-indexOf s n v u = indexAt (bankOf s 0 n) (bankOf s 2 n) (bankOf s 3 n) v u
+unfoldable pub indexOf : List ℕ → List ℕ → ℕ → ℕ → ℕ → ℕ
+indexOf w tables n v u = indexAt (bankOf w tables 0 n) (bankOf w tables 2 n) (bankOf w tables 3 n) v u
 
 -- "The colour table gives channel 0, 1, 2, alpha for an index (000)."
-unfoldable pub graphicsAt : Scene → ℕ → ℕ → ℕ → ℕ → ℕ
-graphicsAt s n u v c = getD (bankOf s 1 n) (colourLen * indexOf s n v u + c) 0
+unfoldable pub graphicsAt : List ℕ → List ℕ → ℕ → ℕ → ℕ → ℕ → ℕ
+graphicsAt w tables n u v c = getD (bankOf w tables 1 n) (colourLen * indexOf w tables n v u + c) 0
 
 -- 01 "Painting": a picture has "4·width·height bytes in raster order"
 unfoldable pub pictureAt : Scene → ℕ → ℕ → ℕ → ℕ → ℕ
@@ -36,7 +37,7 @@ pictureAt s n u v c = getD (s .pictures) (pictureStart (s .words) n + (4 * (v * 
 
 -- place c of layer n
 unfoldable pub ownAt : Scene → ℕ → ℕ → ℕ → ℕ → ℕ
-ownAt s n u v c = pick (layerOf (s .words) n .graphics) (graphicsAt s n u v c) (pictureAt s n u v c)
+ownAt s n u v c = pick (layerOf (s .words) n .graphics) (graphicsAt (s .words) (s .tables) n u v c) (pictureAt s n u v c)
 
 -- the fade's value of a layer at a frame number
 abbrev pub fadedOf : ℕ → Layer → ℕ

@@ -27,3 +27,7 @@ firstByteOf selection = bankAt (controllerOf selection) (bankOf selection) (kind
 -- 01 "Answers by number", 4: "the active word 3 names the selected bank"
 abbrev pub namedBy : List ℕ → ℕ → Bool
 namedBy w selection = eqb (activeBankOf w (kindOf selection) (controllerOf selection)) (bankOf selection)
+
+-- where the bank begins that word 3 names
+abbrev pub activeAt : List ℕ → ℕ → ℕ → ℕ
+activeAt w kind g = bankAt g (activeBankOf w kind g) kind

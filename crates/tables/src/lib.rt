@@ -9,8 +9,8 @@
 
 ghost use mathlib.Core.Path.{_≡_};
 ghost use Prim.Native.Nat.{_+_, _<_, _≤_};
-ghost use Rattle.tables.specs.Geometry.{tablesLen, bankAt};
-ghost use Rattle.tables.specs.Selection.{controllerOf, kindOf, bankOf, endOf, firstByteOf, namedBy};
+ghost use Rattle.tables.specs.Geometry.{tablesLen, kindLen, bankAt};
+ghost use Rattle.tables.specs.Selection.{controllerOf, kindOf, bankOf, endOf, firstByteOf, namedBy, activeAt};
 use words::fields::active_bank;
 
 // The length of the whole buffer.
@@ -75,4 +75,13 @@ pub fn is_named(w: &[u32; 52], selection: u32) -> bool
     ensures { λ r. ⌜ r ≡ namedBy (now (w .entry)) selection ⌝ }
 {
     active_bank(w, kind_of(selection), controller_of(selection)) == bank_of(selection)
+}
+
+// Where the bank of a kind that the words name for a controller begins: all of its bytes lie in the
+// buffer.
+pub fn active_at(w: &[u32; 52], kind: u32, controller: u32) -> usize
+    requires { ⌜ (kind < 4) × (controller < 8) ⌝ }
+    ensures { λ r. ⌜ (r ≡ activeAt (now (w .entry)) kind controller) × (r + kindLen kind ≤ tablesLen) ⌝ }
+{
+    bank_at(controller, active_bank(w, kind, controller), kind)
 }

@@ -6,14 +6,16 @@ use mathlib.Core.Logic.{⊎-elim}
 use mathlib.Core.List.{List, [], _∷_, _++_, append-assoc, append-nil}
 use Prim.Native.Nat.{ℕ, zero, suc, _+_, _-_, _≤_, _<_}
 use native.Mathlib.Numerals.{add-one}
+use native.Mathlib.Nat.{not-suc-le-zero, le-of-suc-le-suc}
 use native.Mathlib.Omega.{arith}
 use borrow.Author.Tests.{ne-eqb}
-use lib.ListN.{length, set, replicate, length-append}
+use lib.ListN.{length, getD, set, replicate, length-append, List·getD-append}
 use lib.Seq.{set-append-seam, append-snoc}
 use lib.Dec.{eqb}
 use Rattle.lists.specs.Choice.{pick, pickList, both}
 use Rattle.lists.specs.Runs.{sumOf}
-use Rattle.lists.proofs.Choice.{same-or}
+use Rattle.lists.proofs.Choice.{same-or, both-left}
+use Rattle.lists.proofs.Steps.{Every, every-append}
 use Rattle.lists.proofs.Sum.{sum-le, sum-room, sum-swap}
 use Rattle.words.specs.declared.order.Order.{Order}
 use Rattle.words.specs.Fields.{layerOf}
@@ -145,3 +147,34 @@ order-all w d o p q is = let e : d ≡ 8 = omega arith in rw e at is
 pub order-none : (w : List ℕ) → packed [] ≡ packed (layersBelow w 0)
 unfolding layersBelow
 order-none w = refl
+
+-- ---- its elements are enabled layers
+
+abbrev pub Enabled : List ℕ → ℕ → Type 0
+Enabled w n = (n < 8) × (layerOf w n .on ≡ true)
+
+layersAt-enabled : (w : List ℕ) (d k : ℕ) → k ≤ 8 → Every (Enabled w) (layersAt w d k)
+unfolding layersAt
+layersAt-enabled w d zero h i lt = absurd (not-suc-le-zero lt)
+layersAt-enabled w d (suc k) h i lt =
+    every-append (Enabled w) (layersAt w d k) _ (layersAt-enabled w d k (omega arith))
+    (one (here (layerOf w k) d) (λ e. (omega arith, both-left (layerOf w k .on) _ e))) i lt
+  where
+    one : (t : Bool) → (t ≡ true → Enabled w k) → Every (Enabled w) (pickList t (k ∷ []) [])
+    one true f zero lt = f refl
+    one true f (suc i) lt = absurd (not-suc-le-zero (le-of-suc-le-suc lt))
+    one false f i lt = absurd (not-suc-le-zero lt)
+
+layersBelow-enabled : (w : List ℕ) (d : ℕ) → Every (Enabled w) (layersBelow w d)
+unfolding layersBelow
+layersBelow-enabled w zero i lt = absurd (not-suc-le-zero lt)
+layersBelow-enabled w (suc d) i lt =
+    every-append (Enabled w) (layersBelow w d) _ (layersBelow-enabled w d) (layersAt-enabled w d 8 (omega arith)) i lt
+
+pub orderOf-enabled : (w : List ℕ) → Every (Enabled w) (orderOf w)
+unfolding orderOf
+orderOf-enabled w = layersBelow-enabled w 8
+
+-- the element at i of the array is that of the list
+pub packed-at : (l : List ℕ) (i : ℕ) → i < length l → getD (packed l .layers) i 0 ≡ getD l i 0
+packed-at l i h = List·getD-append l _ 0 i h

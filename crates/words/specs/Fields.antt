@@ -5,6 +5,7 @@ use mathlib.Core.Bool.{Bool}
 use mathlib.Core.List.{List}
 use lib.ListN.{getD}
 use lib.Dec.{eqb}
+use Rattle.words.specs.declared.fields.Ground.{Ground}
 use Rattle.words.specs.declared.fields.Layer.{Layer}
 
 -- "11:0" and "27:16": the two numbers of 12 bits that share a word
@@ -31,6 +32,9 @@ heightOf w = highOf (getD w 1 0)
 -- word 2: "background channel 0 7:0, channel 1 15:8, channel 2 23:16"
 abbrev pub groundOf : List ℕ → ℕ → ℕ
 groundOf w c = getD w 2 0 / 256 ^ c % 256
+
+abbrev pub groundsOf : List ℕ → Ground
+groundsOf w = record { c0 = groundOf w 0; c1 = groundOf w 1; c2 = groundOf w 2 }
 
 -- word 3: "active bank bits of controllers 0..7: instruction 7:0, colour 15:8, text 23:16, font
 -- 31:24", the kinds 0 to 3

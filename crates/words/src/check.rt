@@ -72,7 +72,7 @@ const RESERVED: [u32; 52] = [
 ];
 
 // Of two refusals the earlier.
-fn or_else(first: u8, second: u8) -> u8
+pub fn or_else(first: u8, second: u8) -> u8
     ensures { λ r. ⌜ r ≡ orElse first second ⌝ }
 {
     if first == DONE {

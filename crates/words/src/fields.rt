@@ -1,7 +1,7 @@
 // The fields of the 52 words by name: 01 "Registers". No other file shifts or masks a word.
 ghost use mathlib.Core.Path.{_≡_};
 ghost use Prim.Native.Nat.{_<_};
-ghost use Rattle.words.specs.Fields.{shownOf, updateOf, widthOf, heightOf, activeBankOf, layerOf, lowOf, highOf};
+ghost use Rattle.words.specs.Fields.{shownOf, updateOf, widthOf, heightOf, groundsOf, activeBankOf, layerOf, lowOf, highOf};
 
 // The six words of a layer, read.
 pub struct Layer {
@@ -17,6 +17,12 @@ pub struct Layer {
     pub start: u32,
     pub length: u16,
     pub target: u8,
+}
+
+pub struct Ground {
+    pub c0: u8,
+    pub c1: u8,
+    pub c2: u8,
 }
 
 // Two numbers of 12 bits share a word: the lower at 11:0, the upper at 27:16.
@@ -56,6 +62,18 @@ pub fn screen_height(w: &[u32; 52]) -> u16
     ensures { λ r. ⌜ r ≡ heightOf (now (w .entry)) ⌝ }
 {
     upper(w[1])
+}
+
+// The background's channels.
+pub fn ground_of(w: &[u32; 52]) -> Ground
+    ensures { λ r. ⌜ r ≡ groundsOf (now (w .entry)) ⌝ }
+{
+    let word = w[2];
+    Ground {
+        c0: (word % 256) as u8,
+        c1: (word / 256 % 256) as u8,
+        c2: (word / 65536 % 256) as u8,
+    }
 }
 
 // The bank of a kind (0 instruction, 1 colour, 2 text, 3 font) that controller g paints from.

@@ -1,0 +1,7 @@
+-- The laws of this crate. Assumes nothing.
+pub mod PlanLaws
+pub mod BandLaws
+pub mod LineLaws
+pub mod DrawLaws
+pub mod RowsLaws
+pub mod FrameLaws

@@ -1,0 +1,49 @@
+-- `paint::paint_band` meets its contract: with the display off nothing changes; else the rows hold the band
+-- and the plan's marks are its error bits. Assumes nothing.
+use borrow.Author.Needs.{needs}
+use mathlib.Core.Path.{sym, ap, _∙_}
+use lib.ListN.{length}
+use borrow.Author.Tests.{not-true, not-false}
+use Rattle.lists.proofs.Tab.{length-each}
+use Rattle.paint.specs.Band.{errorsOf, bandOf}
+use Rattle.paint.proofs.PlanLaws.{planned-numbered}
+use Rattle.paint.proofs.FrameLaws.{off-band, marks-done}
+use Rattle.paint.proofs.paint_band.Statement.{statement}
+use Rattle.paint.proofs.paint_band.Tie as tie
+
+is-shown-requires : tie.Need-is-shown-requires
+is-shown-requires c κs = search needs
+
+returns : tie.Need-returns
+returns c = off-band _ _ _ _ _ (sym (c .before .is-shown .ensures) ∙ not-true _ (c .if1 .taken))
+
+plan-of-requires : tie.Need-plan-of-requires
+plan-of-requires c κs = c .before .before .before .before .before .pre .0 .tables
+
+paint-rows-requires : tie.Need-paint-rows-requires
+paint-rows-requires c κs = let a = c .before .before .before .before .before .before .before in ((a .pre .0, c .before .plan-of .ensures), (a .pre .1, a .pre .2, a .pre .3, a .pre .4))
+
+marks-of-requires : tie.Need-marks-of-requires
+marks-of-requires c κs = planned-numbered _ _ _ _ _ _ (c .before .before .before .before .plan-of .ensures)
+
+same-length : tie.Need-same-length
+same-length c = ap length (c .before .before .before .paint-rows .ensures) ∙ length-each _ _
+
+returns-2 : tie.Need-returns-2
+unfolding errorsOf bandOf
+returns-2 c =
+    let a = c .before .before .before .before .before .before .before .before .before .before .before in
+    let t = sym (c .before .before .before .before .before .before .before .is-shown .ensures) ∙ not-false _ (c .before .before .before .before .before .before .if1 .left) in
+    (rw t (c .marks-of .ensures ∙ marks-done _ _ _ _ _ (a .pre .3) (a .pre .4) (c .before .before .before .before .before .plan-of .ensures)), rw t (c .before .before .before .paint-rows .ensures))
+
+pub paint-band-spec : {M : Type 1} → statement M
+paint-band-spec =
+    tie.close
+    (tie.spec
+    is-shown-requires
+    returns
+    plan-of-requires
+    paint-rows-requires
+    marks-of-requires
+    same-length
+    returns-2)

@@ -1,0 +1,65 @@
+-- What the workers of `src/line.rt` and `src/rows.rt` ask and do, on the way to `specs/Band.antt`. No
+-- definition of the document rests on these. Assumes nothing.
+use Prim.Native.Nat.{ℕ, _+_, _*_, _/_, _%_, _<_, _≤_}
+use mathlib.Core.Path.{_≡_}
+use mathlib.Core.Bool.{true}
+use mathlib.Core.List.{List}
+use lib.ListN.{length, getD, take}
+use lib.Dec.{eqb, ltb}
+use Rattle.lists.specs.Choice.{pick}
+use Rattle.lists.specs.Steps.{through}
+use Rattle.words.specs.Fields.{widthOf, layerOf}
+use Rattle.words.specs.Pictures.{picturesLen}
+use Rattle.tables.specs.Geometry.{tablesLen}
+use Rattle.paint.specs.declared.plan.Step.{Step}
+use Rattle.paint.specs.Scene.{Scene}
+use Rattle.paint.specs.Pixel.{graphicsAt, overAt}
+use Rattle.paint.specs.Band.{pixelAt, bandByte}
+use Rattle.paint.specs.Plan.{Made}
+
+-- tables and pictures of the right lengths
+pub record Lent (s : Scene) : Type 0 where
+  pub tables : length (s .tables) ≡ tablesLen
+  pub pictures : length (s .pictures) ≡ picturesLen (s .words)
+
+-- a step of an enabled layer, and a line to paint it on
+pub record Painting (s : Scene) (line : List ℕ) (t : Step) : Type 0 where
+  pub lent : Lent s
+  pub long : length line ≡ 4 * widthOf (s .words)
+  pub number : t .number < 8
+  pub on : layerOf (s .words) (t .number) .on ≡ true
+  pub made : Made (s .words) (s .frame) (s .tables) (t .number) t
+
+-- the layer reaches line y
+pub record OnRow (t : Step) (y : ℕ) : Type 0 where
+  pub top : t .layer .y ≤ y
+  pub bottom : y < t .layer .y + t .layer .height
+
+-- room for the longest line
+pub record Scratch (indexes row : List ℕ) : Type 0 where
+  pub wide : 4096 ≤ length indexes
+  pub long : 16384 ≤ length row
+
+-- what row v of a graphics layer is drawn from, and what n pixels of it hold
+pub record DrawReady (w : List ℕ) (frame : ℕ) (tables : List ℕ) (t : Step) : Type 0 where
+  pub lent : length tables ≡ tablesLen
+  pub number : t .number < 8
+  pub made : Made w frame tables (t .number) t
+
+pub record Drawn (w tables : List ℕ) (n v pixels : ℕ) (row : List ℕ) : Type 0 where
+  pub at : (u c : ℕ) → u < pixels → c < 4 → getD row (4 * u + c) 0 ≡ graphicsAt w tables n u v c
+
+-- byte i of line y with layer n over it, and with the layers of a band
+unfoldable pub lineByte : Scene → ℕ → ℕ → ℕ → ℕ → ℕ
+lineByte s y n i p = pick (eqb (i % 4) 3) p (overAt s (i / 4) y (i % 4) n p)
+
+-- and with the first k of the layers l
+unfoldable pub lineTo : Scene → ℕ → List ℕ → ℕ → ℕ → ℕ → ℕ
+lineTo s y l k i p = through (λ n q. lineByte s y n i q) (take k l) p
+
+unfoldable pub bandLine : Scene → ℕ → ℕ → ℕ → ℕ → ℕ → ℕ
+bandLine s a b y i p = pick (eqb (i % 4) 3) p (pixelAt s (i / 4) y (i % 4) a b p)
+
+-- the output after its first k lines, of 4 W bytes each
+unfoldable pub rowsByte : Scene → ℕ → ℕ → ℕ → ℕ → ℕ → ℕ
+rowsByte s a b k i p = pick (ltb (i / (4 * widthOf (s .words))) k) (bandByte s a b i p) p

@@ -1,0 +1,125 @@
+// The painted frame: fill, a band of depths, and both. Rows outside and layers inside, so that a line
+// of the frame stays at hand; what is the same for a whole painting is worked out before its rows.
+ghost use mathlib.Core.Path.{_≡_};
+ghost use Prim.Native.Nat.{_≤_, _<_};
+ghost use lib.ListN.{length};
+ghost use Rattle.words.specs.Fields.{widthOf};
+ghost use Rattle.paint.specs.Scene.{sceneOf};
+ghost use Rattle.paint.specs.Band.{bandOf, errorsOf};
+ghost use Rattle.paint.specs.Frame.{frameLen, fillRefusal, fillAfter, paintTold, paintAfter, frameTold, frameAfter};
+ghost use Rattle.paint.specs.Lines.{Lent};
+use crate::plan::marks_of;
+use crate::plan::plan_of;
+use crate::refusal::fill_refusal;
+use crate::refusal::paint_refusal;
+use crate::rows::paint_rows;
+use answers::DONE;
+use words::fields::ground_of;
+use words::fields::is_shown;
+
+mod line;
+mod plan;
+mod refusal;
+mod rows;
+
+// What painting answers: 0 or the number of the refusal, and the error word afterwards.
+pub struct Painted {
+    pub answer: u8,
+    pub errors: u32,
+}
+
+// Fills the output with the background, whatever it held. Refused with 12 where no start has given the
+// output a size, and with 13 where `out` is not of that size; a refusal leaves `out`.
+pub fn fill(w: &[u32; 52], out: &mut [u8]) -> u8
+    ensures answer { λ r. ⌜ r ≡ fillRefusal (now (w .entry)) (length (now (out .entry))) ⌝ }
+    ensures output { λ _. ⌜ now (out .exit) ≡ fillAfter (now (w .entry)) (now (out .entry)) ⌝ }
+{
+    let refusal = fill_refusal(w, out.len());
+    if refusal != DONE {
+        return refusal;
+    }
+    let ground = ground_of(w);
+    span::fill(out, ground.c0, ground.c1, ground.c2);
+    DONE
+}
+
+// The band's layers over what `out` holds, and the error word after it, for buffers of the right
+// lengths. With the display off nothing changes.
+fn paint_band(
+    w: &[u32; 52],
+    frame: u32,
+    errors: u32,
+    low: u32,
+    high: u32,
+    tables: &[u8],
+    pictures: &[u8],
+    out: &mut [u8],
+) -> u32
+    requires { ⌜ Lent (sceneOf (now w) frame (now tables) (now pictures)) × (length (now out) ≡ frameLen (now w)) × (0 < widthOf (now w)) × (low ≤ high) × (high ≤ 8) ⌝ }
+    ensures errors { λ r. ⌜ r ≡ errorsOf (sceneOf (now (w .entry)) frame (now (tables .entry)) (now (pictures .entry))) low high errors ⌝ }
+    ensures output { λ _. ⌜ now (out .exit) ≡ bandOf (sceneOf (now (w .entry)) frame (now (tables .entry)) (now (pictures .entry))) low high (now (out .entry)) ⌝ }
+{
+    if !is_shown(w) {
+        return errors;
+    }
+    let plan = plan_of(w, frame, tables, low, high);
+    paint_rows(out, w, frame, tables, pictures, low, high, plan);
+    marks_of(plan, errors)
+}
+
+// Paints the layers of depths from `low` up to but not `high` over what `out` holds. Refused with 15, 12,
+// 13, 6, 14 in this order; a refusal changes nothing.
+pub fn band(
+    w: &[u32; 52],
+    frame: u32,
+    errors: u32,
+    low: u32,
+    high: u32,
+    tables: &[u8],
+    pictures: &[u8],
+    out: &mut [u8],
+) -> Painted
+    ensures told { λ r. ⌜ r ≡ paintTold (sceneOf (now (w .entry)) frame (now (tables .entry)) (now (pictures .entry))) low high (now (out .entry)) errors ⌝ }
+    ensures output { λ _. ⌜ now (out .exit) ≡ paintAfter (sceneOf (now (w .entry)) frame (now (tables .entry)) (now (pictures .entry))) low high (now (out .entry)) ⌝ }
+{
+    let refusal = paint_refusal(w, low, high, out.len(), tables.len(), pictures.len());
+    if refusal != DONE {
+        return Painted {
+            answer: refusal,
+            errors: errors,
+        };
+    }
+    let marks = paint_band(w, frame, errors, low, high, tables, pictures, out);
+    Painted {
+        answer: DONE,
+        errors: marks,
+    }
+}
+
+// Paints a whole frame: a fill, and the layers of every depth. Refused as a band is, before the fill.
+pub fn frame(
+    w: &[u32; 52],
+    frame: u32,
+    errors: u32,
+    tables: &[u8],
+    pictures: &[u8],
+    out: &mut [u8],
+) -> Painted
+    ensures told { λ r. ⌜ r ≡ frameTold (sceneOf (now (w .entry)) frame (now (tables .entry)) (now (pictures .entry))) (now (out .entry)) errors ⌝ }
+    ensures output { λ _. ⌜ now (out .exit) ≡ frameAfter (sceneOf (now (w .entry)) frame (now (tables .entry)) (now (pictures .entry))) (now (out .entry)) ⌝ }
+{
+    let refusal = paint_refusal(w, 0, 8, out.len(), tables.len(), pictures.len());
+    if refusal != DONE {
+        return Painted {
+            answer: refusal,
+            errors: errors,
+        };
+    }
+    let ground = ground_of(w);
+    span::fill(out, ground.c0, ground.c1, ground.c2);
+    let marks = paint_band(w, frame, errors, 0, 8, tables, pictures, out);
+    Painted {
+        answer: DONE,
+        errors: marks,
+    }
+}

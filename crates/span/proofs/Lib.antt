@@ -1,0 +1,8 @@
+-- The laws of the crate; `OverLaws` and `RowLaws` are for the crates above. Assumes nothing.
+pub mod OverLaws
+pub mod RowLaws
+mod PartLaws
+mod LaneLaws
+mod PixelLaws
+mod OverParts
+mod RowParts

@@ -1,0 +1,81 @@
+-- Pixels written to a row, as parts of it. Assumes nothing.
+use mathlib.Core.Path.{_≡_, refl, sym, ap, _∙_}
+use mathlib.Core.List.{List, [], _∷_}
+use Prim.Native.Nat.{ℕ, zero, suc, _+_, _-_, _*_, _/_, _%_, _≤_, _<_}
+use native.Mathlib.Omega.{arith}
+use lib.ListN.{length, getD, set}
+use Rattle.span.specs.Span.{pixelByte, wordByte, colourByte, fillByte}
+use Rattle.span.specs.Lanes.{Part, Lanes, anew, Bytes, SameIs, HalfIs, storeByte, wordsByte}
+use Rattle.span.proofs.PartLaws.{part-none, part-set, part-then, part-turn, part-cong, part-to}
+use Rattle.span.proofs.RowLaws.{pixelByte-at}
+use Rattle.span.proofs.PixelLaws.{halves-byte, wordByte-is}
+
+-- ---- one pixel over and over
+
+module _ (c0 c1 c2 c3 at : ℕ) (h : at % 4 ≡ 0) where
+  pub fill-block : {l l₀ p w : List ℕ} {c : ℕ} → Bytes c c0 c1 c2 c3 → Lanes p 16 (SameIs c) → Lanes w 32 (HalfIs p)
+      → Part l l₀ (anew (storeByte w at)) at (at + 64) → Part l l₀ (anew (pixelByte c0 c1 c2 c3)) at (at + 64)
+  fill-block {l} {l₀} {p} {w} {c} b ep ew pt = part-cong pt (λ i h1 h2.
+      halves-byte p w at h ew i h1 h2
+      ∙ ap (λ (v : ℕ). wordByte v i) (ep .lane ((i - at) / 4) (omega arith) .is)
+      ∙ wordByte-is c c0 c1 c2 c3 i b)
+
+pub fill-turn : {r l l₀ p w : List ℕ} (c0 c1 c2 : ℕ) {c i : ℕ} → Part l l₀ (anew (fillByte c0 c1 c2)) 0 i → i % 4 ≡ 0 → Bytes c c0 c1 c2 255 → Lanes p 16 (SameIs c) → Lanes w 32 (HalfIs p)
+    → Part r l (anew (storeByte w i)) i (i + 64) → Part r l₀ (anew (fillByte c0 c1 c2)) 0 (i + 64)
+fill-turn c0 c1 c2 {c} {i} p h b ep ew q = part-turn 64 p (omega arith) (fill-block c0 c1 c2 255 i h b ep ew q)
+
+pub put4-part : (l : List ℕ) (c0 c1 c2 c3 i : ℕ) → i % 4 ≡ 0 → i + 4 ≤ length l
+    → Part (set (set (set (set l i c0) (i + 1) c1) (i + 2) c2) (i + 3) c3) l (anew (pixelByte c0 c1 c2 c3)) i (i + 4)
+put4-part l c0 c1 c2 c3 i h b =
+    part-set (i + 3) c3
+    (part-set (i + 2) c2
+    (part-set (i + 1) c1
+    (part-set i c0 (part-none l (anew (pixelByte c0 c1 c2 c3)) i i (omega arith)) (omega arith) refl refl (omega arith) (sym (pixelByte-at c0 c1 c2 c3 i 0 h)))
+    (omega arith) refl refl (omega arith) (sym (pixelByte-at c0 c1 c2 c3 (i + 1) 1 (omega arith))))
+    (omega arith) (omega arith) refl (omega arith) (sym (pixelByte-at c0 c1 c2 c3 (i + 2) 2 (omega arith))))
+    (omega arith) (omega arith) (omega arith) (omega arith) (sym (pixelByte-at c0 c1 c2 c3 (i + 3) 3 (omega arith)))
+
+pub word-part : {l l₀ : List ℕ} {a b : ℕ} (c b0 b1 b2 b3 : ℕ) → Part l l₀ (anew (pixelByte b0 b1 b2 b3)) a b → b0 ≡ c % 256 → b1 ≡ c / 256 % 256 → b2 ≡ c / 65536 % 256 → b3 ≡ c / 16777216
+    → Part l l₀ (anew (wordByte c)) a b
+word-part c b0 b1 b2 b3 p e0 e1 e2 e3 = rw (← e0, ← e1, ← e2, ← e3) p
+
+-- ---- words, and a line of indexes
+
+module _ (c0 c1 c2 c3 at : ℕ) where
+  one-word : (k c : ℕ) {r l : List ℕ} {a b : ℕ} → Part r l (anew (wordByte c)) a b → a ≡ at + 4 * k → b ≡ a + 4 → c ≡ getD (c0 ∷ c1 ∷ c2 ∷ c3 ∷ []) k 0 → Part r l (anew (wordsByte c0 c1 c2 c3 at)) a b
+  unfolding wordsByte
+  one-word k c q ea eb e = part-cong q (λ i h1 h2. let d : k ≡ (i - at) / 4 = omega arith in
+      ap (λ (n : ℕ). wordByte n i) (e ∙ ap (λ (n : ℕ). getD (c0 ∷ c1 ∷ c2 ∷ c3 ∷ []) n 0) d))
+
+  pub words-part : {l l1 l2 l3 l4 : List ℕ} → Part l1 l (anew (wordByte c0)) at (at + 4) → Part l2 l1 (anew (wordByte c1)) (at + 4) (at + 4 + 4)
+      → Part l3 l2 (anew (wordByte c2)) (at + 8) (at + 8 + 4) → Part l4 l3 (anew (wordByte c3)) (at + 12) (at + 12 + 4) → Part l4 l (anew (wordsByte c0 c1 c2 c3 at)) at (at + 16)
+  words-part p0 p1 p2 p3 =
+      part-to (part-then (part-to (part-then (part-to (part-then
+      (one-word 0 c0 p0 (omega arith) refl refl) (one-word 1 c1 p1 (omega arith) refl refl) (omega arith) (omega arith)) (let z : at + 4 + 4 ≡ at + 8 = omega arith in z))
+      (one-word 2 c2 p2 (omega arith) refl refl) (omega arith) (omega arith)) (let z : at + 8 + 4 ≡ at + 12 = omega arith in z))
+      (one-word 3 c3 p3 (omega arith) refl refl) (omega arith) (omega arith)) (omega arith)
+
+module _ (line palette : List ℕ) {l₀ : List ℕ} {b : ℕ} where
+  pub colour-turn : (j x : ℕ) {r l : List ℕ} → Part l l₀ (anew (colourByte line palette)) b (4 * j) → b ≤ 4 * j → Part r l (anew (wordByte (getD palette x 0))) (4 * j) (4 * j + 4)
+      → x ≡ getD line j 0 % 16 → Part r l₀ (anew (colourByte line palette)) b (4 * (j + 1))
+  unfolding colourByte
+  colour-turn j x {r} {l} p bj q ex =
+      part-to (part-turn 4 p bj (part-cong q (λ i h1 h2. let d : j ≡ i / 4 = omega arith in
+      ap (λ (n : ℕ). wordByte (getD palette n 0) i) (ex ∙ ap (λ (n : ℕ). getD line n 0 % 16) d))))
+      (omega arith)
+
+  -- four at once: the word at m is the colour of the index j + m
+  pub colour-four : (j x0 x1 x2 x3 : ℕ) {r l : List ℕ} → Part l l₀ (anew (colourByte line palette)) b (4 * j) → b ≤ 4 * j
+      → Part r l (anew (wordsByte (getD palette x0 0) (getD palette x1 0) (getD palette x2 0) (getD palette x3 0) (4 * j))) (4 * j) (4 * j + 16)
+      → x0 ≡ getD line j 0 % 16 → x1 ≡ getD line (j + 1) 0 % 16 → x2 ≡ getD line (j + 2) 0 % 16 → x3 ≡ getD line (j + 3) 0 % 16
+      → Part r l₀ (anew (colourByte line palette)) b (4 * (j + 4))
+  unfolding colourByte wordsByte
+  colour-four j x0 x1 x2 x3 p bj q e0 e1 e2 e3 =
+      part-to (part-turn 16 p bj (part-cong q (λ i h1 h2. ap (λ (c : ℕ). wordByte c i) (go ((i - 4 * j) / 4) (i / 4) (omega arith) (omega arith))))) (omega arith)
+    where
+      go : (m k : ℕ) → k ≡ j + m → m < 4 → getD (getD palette x0 0 ∷ getD palette x1 0 ∷ getD palette x2 0 ∷ getD palette x3 0 ∷ []) m 0 ≡ getD palette (getD line k 0 % 16) 0
+      go zero k e lt = ap (λ (x : ℕ). getD palette x 0) (e0 ∙ ap (λ (n : ℕ). getD line n 0 % 16) (let z : j ≡ k = omega arith in z))
+      go (suc zero) k e lt = ap (λ (x : ℕ). getD palette x 0) (e1 ∙ ap (λ (n : ℕ). getD line n 0 % 16) (let z : j + 1 ≡ k = omega arith in z))
+      go (suc (suc zero)) k e lt = ap (λ (x : ℕ). getD palette x 0) (e2 ∙ ap (λ (n : ℕ). getD line n 0 % 16) (let z : j + 2 ≡ k = omega arith in z))
+      go (suc (suc (suc zero))) k e lt = ap (λ (x : ℕ). getD palette x 0) (e3 ∙ ap (λ (n : ℕ). getD line n 0 % 16) (let z : j + 3 ≡ k = omega arith in z))
+      go (suc (suc (suc (suc m)))) k e lt = absurd (let z : ⊥ = omega arith in z)

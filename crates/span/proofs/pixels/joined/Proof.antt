@@ -1,0 +1,71 @@
+-- `span::pixels::joined` meets its contract: the loop has filled the first k pixels as the contract
+-- says; the measure is what is left. Assumes nothing.
+use mathlib.Core.Path.{_≡_}
+use Prim.Native.Nat.{_-_, _≤_}
+use lib.ListN.{length}
+use borrow.Author.Needs.{needs}
+use Rattle.span.specs.Lanes.{Lanes, JoinIs}
+use Rattle.span.proofs.LaneLaws.{lanes-none, lanes-turn, lanes-done}
+use Rattle.span.proofs.pixels.joined.Statement.{statement}
+use Rattle.span.proofs.pixels.joined.Tie as tie
+
+abbrev Inv-loop : tie.InvT-loop
+Inv-loop p q w₀ k₀ w k = (k ≤ 16) × (length w ≡ 16) × Lanes w k (JoinIs p q)
+
+abbrev μ-loop : tie.MeasureT-loop
+μ-loop p q w₀ k₀ w k = 16 - k
+
+loop-holds : tie.Need-loop-holds Inv-loop μ-loop
+loop-holds c = (search needs, search needs, lanes-none _ _)
+
+mul-channels-with : tie.Need-mul-channels-with Inv-loop μ-loop
+mul-channels-with c = search needs
+
+array-read-channels-with : tie.Need-array-read-channels-with Inv-loop μ-loop
+array-read-channels-with c = search needs
+
+mul-channels-with-2 : tie.Need-mul-channels-with-2 Inv-loop μ-loop
+mul-channels-with-2 c = search needs
+
+array-read-channels-with-2 : tie.Need-array-read-channels-with-2 Inv-loop μ-loop
+array-read-channels-with-2 c = search needs
+
+channels-with-requires : tie.Need-channels-with-requires Inv-loop μ-loop
+channels-with-requires c κs = search needs
+
+mul-w : tie.Need-mul-w Inv-loop μ-loop
+mul-w c = search needs
+
+array-write-w : tie.Need-array-write-w Inv-loop μ-loop
+array-write-w c = search needs
+
+add-k : tie.Need-add-k Inv-loop μ-loop
+add-k c = search needs
+
+loop-less : tie.Need-loop-less Inv-loop μ-loop
+loop-less c = search needs
+
+loop-again : tie.Need-loop-again Inv-loop μ-loop
+loop-again c = search (lanes-turn, needs)
+
+returns : tie.Need-returns Inv-loop μ-loop
+returns c = lanes-done (c .before .loop .inv .2) (search needs)
+
+pub joined-spec : {M : Type 1} → statement M
+joined-spec =
+    tie.close
+    (tie.spec
+    Inv-loop
+    μ-loop
+    loop-holds
+    mul-channels-with
+    array-read-channels-with
+    mul-channels-with-2
+    array-read-channels-with-2
+    channels-with-requires
+    mul-w
+    array-write-w
+    add-k
+    loop-less
+    loop-again
+    returns)

@@ -1,0 +1,149 @@
+-- `span::rows::expand_fours` meets its contract: the loop has written the pixels of the first j
+-- indexes, and a turn writes four more; the measure is what is left. Assumes nothing.
+use mathlib.Core.Path.{_≡_}
+use Prim.Native.Nat.{_-_, _*_, _≤_}
+use native.Mathlib.Omega.{arith}
+use lib.ListN.{length}
+use borrow.Author.Needs.{needs}
+use Rattle.span.specs.Span.{colourByte}
+use Rattle.span.specs.Lanes.{Part, anew}
+use Rattle.span.proofs.PartLaws.{part-none}
+use Rattle.span.proofs.RowParts.{colour-four}
+use Rattle.span.proofs.rows.expand_fours.Statement.{statement}
+use Rattle.span.proofs.rows.expand_fours.Tie as tie
+
+abbrev Inv-loop : tie.InvT-loop
+Inv-loop line row₀ palette j₀ row j = (j ≤ length line) × (length row ≡ length row₀) × Part row row₀ (anew (colourByte line palette)) 0 (4 * j)
+
+abbrev μ-loop : tie.MeasureT-loop
+μ-loop line row₀ palette j₀ row j = length line - j
+
+loop-holds : tie.Need-loop-holds Inv-loop μ-loop
+loop-holds c = (search needs, search needs, part-none _ _ _ _ (omega arith))
+
+sub-loop : tie.Need-sub-loop Inv-loop μ-loop
+sub-loop c = search needs
+
+shared-slice-read-index-of : tie.Need-shared-slice-read-index-of Inv-loop μ-loop
+shared-slice-read-index-of c = search needs
+
+index-of-requires : tie.Need-index-of-requires Inv-loop μ-loop
+index-of-requires c κs = search needs
+
+mul-c0 : tie.Need-mul-c0 Inv-loop μ-loop
+mul-c0 c = search needs
+
+array-read-c0 : tie.Need-array-read-c0 Inv-loop μ-loop
+array-read-c0 c = search needs
+
+add-index-of : tie.Need-add-index-of Inv-loop μ-loop
+add-index-of c = search needs
+
+shared-slice-read-index-of-2 : tie.Need-shared-slice-read-index-of-2 Inv-loop μ-loop
+shared-slice-read-index-of-2 c = search needs
+
+index-of-requires-2 : tie.Need-index-of-requires-2 Inv-loop μ-loop
+index-of-requires-2 c κs = search needs
+
+mul-c1 : tie.Need-mul-c1 Inv-loop μ-loop
+mul-c1 c = search needs
+
+array-read-c1 : tie.Need-array-read-c1 Inv-loop μ-loop
+array-read-c1 c = search needs
+
+add-index-of-2 : tie.Need-add-index-of-2 Inv-loop μ-loop
+add-index-of-2 c = search needs
+
+shared-slice-read-index-of-3 : tie.Need-shared-slice-read-index-of-3 Inv-loop μ-loop
+shared-slice-read-index-of-3 c = search needs
+
+index-of-requires-3 : tie.Need-index-of-requires-3 Inv-loop μ-loop
+index-of-requires-3 c κs = search needs
+
+mul-c2 : tie.Need-mul-c2 Inv-loop μ-loop
+mul-c2 c = search needs
+
+array-read-c2 : tie.Need-array-read-c2 Inv-loop μ-loop
+array-read-c2 c = search needs
+
+add-index-of-3 : tie.Need-add-index-of-3 Inv-loop μ-loop
+add-index-of-3 c = search needs
+
+shared-slice-read-index-of-4 : tie.Need-shared-slice-read-index-of-4 Inv-loop μ-loop
+shared-slice-read-index-of-4 c = search needs
+
+index-of-requires-4 : tie.Need-index-of-requires-4 Inv-loop μ-loop
+index-of-requires-4 c κs = search needs
+
+mul-c3 : tie.Need-mul-c3 Inv-loop μ-loop
+mul-c3 c = search needs
+
+array-read-c3 : tie.Need-array-read-c3 Inv-loop μ-loop
+array-read-c3 c = search needs
+
+mul-put-words : tie.Need-mul-put-words Inv-loop μ-loop
+mul-put-words c = search needs
+
+put-words-requires : tie.Need-put-words-requires Inv-loop μ-loop
+put-words-requires c κs = search needs
+
+add-j : tie.Need-add-j Inv-loop μ-loop
+add-j c = search needs
+
+loop-less : tie.Need-loop-less Inv-loop μ-loop
+loop-less c = search needs
+
+loop-again : tie.Need-loop-again Inv-loop μ-loop
+loop-again c =
+    let put = c .before .before in
+    let fourth = put .before .before in
+    let third = fourth .before .before in
+    let second = third .before .before in
+    let first = second .before .before in
+    let head = first .before .before .before in (
+      search needs,
+      search needs,
+      colour-four _ _ _ _ _ _ _ (head .loop .inv .2) (omega arith) (put .put-words .ensures)
+          (first .index-of .ensures .0) (second .index-of2 .ensures .0) (third .index-of3 .ensures .0) (fourth .index-of4 .ensures .0),
+    )
+
+same-length : tie.Need-same-length Inv-loop μ-loop
+same-length c = search needs
+
+returns : tie.Need-returns Inv-loop μ-loop
+returns c = search needs
+
+pub expand-fours-spec : {M : Type 1} → statement M
+expand-fours-spec =
+    tie.close
+    (tie.spec
+    Inv-loop
+    μ-loop
+    loop-holds
+    sub-loop
+    shared-slice-read-index-of
+    index-of-requires
+    mul-c0
+    array-read-c0
+    add-index-of
+    shared-slice-read-index-of-2
+    index-of-requires-2
+    mul-c1
+    array-read-c1
+    add-index-of-2
+    shared-slice-read-index-of-3
+    index-of-requires-3
+    mul-c2
+    array-read-c2
+    add-index-of-3
+    shared-slice-read-index-of-4
+    index-of-requires-4
+    mul-c3
+    array-read-c3
+    mul-put-words
+    put-words-requires
+    add-j
+    loop-less
+    loop-again
+    same-length
+    returns)

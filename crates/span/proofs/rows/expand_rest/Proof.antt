@@ -1,0 +1,74 @@
+-- `span::rows::expand_rest` meets its contract: the loop has written the pixels of the indexes from
+-- `from` up to j; the measure is what is left. Assumes nothing.
+use mathlib.Core.Path.{_≡_}
+use Prim.Native.Nat.{_-_, _*_, _≤_}
+use native.Mathlib.Omega.{arith}
+use lib.ListN.{length}
+use borrow.Author.Needs.{needs}
+use Rattle.span.specs.Span.{colourByte}
+use Rattle.span.specs.Lanes.{Part, anew}
+use Rattle.span.proofs.PartLaws.{part-none, part-to}
+use Rattle.span.proofs.RowParts.{colour-turn}
+use Rattle.span.proofs.rows.expand_rest.Statement.{statement}
+use Rattle.span.proofs.rows.expand_rest.Tie as tie
+
+abbrev Inv-loop : tie.InvT-loop
+Inv-loop line row₀ from palette j₀ row j = (4 * from ≤ 4 * j) × (j ≤ length line) × (length row ≡ length row₀) × Part row row₀ (anew (colourByte line palette)) (4 * from) (4 * j)
+
+abbrev μ-loop : tie.MeasureT-loop
+μ-loop line row₀ from palette j₀ row j = length line - j
+
+loop-holds : tie.Need-loop-holds Inv-loop μ-loop
+loop-holds c = (search needs, search needs, search needs, part-none _ _ _ _ (omega arith))
+
+shared-slice-read-index-of : tie.Need-shared-slice-read-index-of Inv-loop μ-loop
+shared-slice-read-index-of c = search needs
+
+index-of-requires : tie.Need-index-of-requires Inv-loop μ-loop
+index-of-requires c κs = search needs
+
+mul-c : tie.Need-mul-c Inv-loop μ-loop
+mul-c c = search needs
+
+array-read-c : tie.Need-array-read-c Inv-loop μ-loop
+array-read-c c = search needs
+
+mul-put-word : tie.Need-mul-put-word Inv-loop μ-loop
+mul-put-word c = search needs
+
+put-word-requires : tie.Need-put-word-requires Inv-loop μ-loop
+put-word-requires c κs = search needs
+
+add-j : tie.Need-add-j Inv-loop μ-loop
+add-j c = search needs
+
+loop-less : tie.Need-loop-less Inv-loop μ-loop
+loop-less c = search needs
+
+loop-again : tie.Need-loop-again Inv-loop μ-loop
+loop-again c = (search needs, search needs, search needs, search (colour-turn, needs))
+
+same-length : tie.Need-same-length Inv-loop μ-loop
+same-length c = search needs
+
+returns : tie.Need-returns Inv-loop μ-loop
+returns c = part-to (c .before .loop .inv .3) (omega arith)
+
+pub expand-rest-spec : {M : Type 1} → statement M
+expand-rest-spec =
+    tie.close
+    (tie.spec
+    Inv-loop
+    μ-loop
+    loop-holds
+    shared-slice-read-index-of
+    index-of-requires
+    mul-c
+    array-read-c
+    mul-put-word
+    put-word-requires
+    add-j
+    loop-less
+    loop-again
+    same-length
+    returns)

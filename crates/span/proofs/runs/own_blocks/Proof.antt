@@ -1,0 +1,58 @@
+-- `span::runs::own_blocks` meets its contract: the loop has done a part of the run, from its front
+-- up to i; the measure is what is left. Assumes nothing.
+use mathlib.Core.Path.{_≡_}
+use mathlib.Core.Bool.{false}
+use Prim.Native.Nat.{_-_, _%_, _≤_}
+use native.Mathlib.Omega.{arith}
+use lib.ListN.{length}
+use borrow.Author.Needs.{needs}
+use Rattle.span.specs.Span.{overByte}
+use Rattle.span.specs.Lanes.{Part}
+use Rattle.span.proofs.PartLaws.{part-none, part-turn}
+use Rattle.span.proofs.runs.own_blocks.Statement.{statement}
+use Rattle.span.proofs.runs.own_blocks.Tie as tie
+
+abbrev Inv-loop : tie.InvT-loop
+Inv-loop out₀ over i₀ out i = (i % 4 ≡ 0) × (i ≤ length out₀) × (length out ≡ length out₀) × Part out out₀ (overByte over false 0) 0 i
+
+abbrev μ-loop : tie.MeasureT-loop
+μ-loop out₀ over i₀ out i = length out₀ - i
+
+loop-holds : tie.Need-loop-holds Inv-loop μ-loop
+loop-holds c = (search needs, search needs, search needs, part-none _ _ _ _ (omega arith))
+
+sub-loop : tie.Need-sub-loop Inv-loop μ-loop
+sub-loop c = search needs
+
+block-requires : tie.Need-block-requires Inv-loop μ-loop
+block-requires c κs = search needs
+
+add-i : tie.Need-add-i Inv-loop μ-loop
+add-i c = search needs
+
+loop-less : tie.Need-loop-less Inv-loop μ-loop
+loop-less c = search needs
+
+loop-again : tie.Need-loop-again Inv-loop μ-loop
+loop-again c = (search needs, search needs, search needs, search (part-turn, needs))
+
+same-length : tie.Need-same-length Inv-loop μ-loop
+same-length c = search needs
+
+returns : tie.Need-returns Inv-loop μ-loop
+returns c = search needs
+
+pub own-blocks-spec : {M : Type 1} → statement M
+own-blocks-spec =
+    tie.close
+    (tie.spec
+    Inv-loop
+    μ-loop
+    loop-holds
+    sub-loop
+    block-requires
+    add-i
+    loop-less
+    loop-again
+    same-length
+    returns)

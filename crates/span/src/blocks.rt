@@ -1,0 +1,100 @@
+// A block of sixteen pixels of a run over the same block of another, and a single pixel for what is
+// left of a run behind its last block. A block begins at a multiple of four.
+ghost use mathlib.Core.Path.{_≡_};
+ghost use mathlib.Core.Bool.{true, false};
+ghost use Prim.Native.Nat.{_+_, _%_, _≤_};
+ghost use lib.ListN.{length};
+ghost use Rattle.mix.specs.Blend.{blendOf};
+ghost use Rattle.span.specs.Span.{overByte};
+ghost use Rattle.span.specs.Lanes.{Part};
+use super::lanes::blended;
+use super::lanes::mixed;
+use super::lanes::one_alpha;
+use super::lanes::own_alphas;
+use super::lanes::store;
+use super::lanes::words;
+use super::pixels::all_alpha;
+use super::pixels::halves;
+use super::pixels::joined;
+use super::pixels::pixels;
+
+// Each pixel at its own alpha.
+fn blend16(out: &mut [u8], over: &[u8], i: usize)
+    requires { ⌜ (i + 64 ≤ length (now out)) × (i + 64 ≤ length (now over)) × (i % 4 ≡ 0) ⌝ }
+    ensures { λ _. ⌜ Part (now (out .exit)) (now (out .entry)) (overByte (now (over .entry)) false 0) i (i + 64) ⌝ }
+{
+    let o = words(over, i);
+    let u = words(out, i);
+    let a = own_alphas(o);
+    let w = mixed(a, o, u);
+    store(out, i, w);
+}
+
+// All pixels at one alpha.
+pub fn flat16(out: &mut [u8], over: &[u8], i: usize, alpha: u8)
+    requires { ⌜ (i + 64 ≤ length (now out)) × (i + 64 ≤ length (now over)) × (i % 4 ≡ 0) ⌝ }
+    ensures { λ _. ⌜ Part (now (out .exit)) (now (out .entry)) (overByte (now (over .entry)) true alpha) i (i + 64) ⌝ }
+{
+    let o = words(over, i);
+    let u = words(out, i);
+    let a = one_alpha(alpha as u16);
+    let w = mixed(a, o, u);
+    store(out, i, w);
+}
+
+// All pixels at the alpha 255: their channels, with the alphas that stood there.
+pub fn copy16(out: &mut [u8], over: &[u8], i: usize)
+    requires { ⌜ (i + 64 ≤ length (now out)) × (i + 64 ≤ length (now over)) × (i % 4 ≡ 0) ⌝ }
+    ensures { λ _. ⌜ Part (now (out .exit)) (now (out .entry)) (overByte (now (over .entry)) true 255) i (i + 64) ⌝ }
+{
+    let p = pixels(over, i);
+    let q = pixels(out, i);
+    let w = joined(p, q);
+    let h = halves(w);
+    store(out, i, h);
+}
+
+// Each pixel at its own alpha, where nothing is done for a clear block and no byte is blended for
+// an opaque one. Three calls of `blend16` keep it a function of its own: inlined beside the tests
+// it takes 1.6 times as long.
+pub fn block(out: &mut [u8], over: &[u8], i: usize)
+    requires { ⌜ (i + 64 ≤ length (now out)) × (i + 64 ≤ length (now over)) × (i % 4 ≡ 0) ⌝ }
+    ensures { λ _. ⌜ Part (now (out .exit)) (now (out .entry)) (overByte (now (over .entry)) false 0) i (i + 64) ⌝ }
+{
+    let a = over[i + 3];
+    if a == 0 {
+        if all_alpha(over, i, 0) {
+            return;
+        }
+        blend16(out, over, i);
+        return;
+    }
+    if a == 255 {
+        if all_alpha(over, i, 255) {
+            copy16(out, over, i);
+            return;
+        }
+        blend16(out, over, i);
+        return;
+    }
+    blend16(out, over, i);
+}
+
+fn blended_byte(a: u8, over: u8, under: u8) -> u8
+    ensures { λ r. ⌜ r ≡ blendOf a over under ⌝ }
+{
+    blended(a as u16, over as u16, under as u16) as u8
+}
+
+// One pixel, at the alpha a.
+pub fn pixel(out: &mut [u8], over: &[u8], i: usize, a: u8)
+    requires { ⌜ (i + 4 ≤ length (now out)) × (i + 4 ≤ length (now over)) × (i % 4 ≡ 0) ⌝ }
+    ensures { λ _. ⌜ Part (now (out .exit)) (now (out .entry)) (overByte (now (over .entry)) true a) i (i + 4) ⌝ }
+{
+    let c0 = blended_byte(a, over[i], out[i]);
+    let c1 = blended_byte(a, over[i + 1], out[i + 1]);
+    let c2 = blended_byte(a, over[i + 2], out[i + 2]);
+    out[i] = c0;
+    out[i + 1] = c1;
+    out[i + 2] = c2;
+}

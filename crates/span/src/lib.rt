@@ -1,0 +1,70 @@
+// Runs of pixels: one blended over another, a line of colour indexes as pixels, a filled row. Each
+// is one function with one contract, so that its inside can be made faster and nothing above it is
+// proved again. Nothing here knows of layers or frames.
+ghost use mathlib.Core.Path.{_≡_};
+ghost use mathlib.Core.Bool.{true, false};
+ghost use Prim.Native.Nat.{_*_, _%_};
+ghost use lib.ListN.{length};
+ghost use Rattle.lists.specs.Tab.{tab, each};
+ghost use Rattle.span.specs.Span.{overByte, colourByte, fillByte, PaletteOf};
+
+mod blocks;
+mod digits;
+mod lanes;
+mod pixels;
+mod rows;
+mod runs;
+
+// Blends the run `over` over `out`, each pixel at its own alpha.
+pub fn blend(out: &mut [u8], over: &[u8])
+    requires { ⌜ (length (now out) ≡ length (now over)) × (length (now out) % 4 ≡ 0) ⌝ }
+    ensures { λ _. ⌜ now (out .exit) ≡ each (overByte (now (over .entry)) false 0) (now (out .entry)) ⌝ }
+{
+    let i = runs::own_blocks(out, over);
+    runs::own_rest(out, over, i);
+}
+
+// Blends the run `over` over `out`, all pixels at one alpha: nothing is done at 0, and at 255 no
+// byte of a block is blended.
+pub fn blend_flat(out: &mut [u8], over: &[u8], alpha: u8)
+    requires { ⌜ (length (now out) ≡ length (now over)) × (length (now out) % 4 ≡ 0) ⌝ }
+    ensures { λ _. ⌜ now (out .exit) ≡ each (overByte (now (over .entry)) true alpha) (now (out .entry)) ⌝ }
+{
+    if alpha == 0 {
+        return;
+    }
+    if alpha == 255 {
+        let i = runs::copy_blocks(out, over);
+        runs::flat_rest(out, over, i, 255);
+        return;
+    }
+    let i = runs::flat_blocks(out, over, alpha);
+    runs::flat_rest(out, over, i, alpha);
+}
+
+// The colours of a bank as words, for `expand`.
+pub fn palette(colours: &[u8]) -> [u32; 16]
+    requires { ⌜ length (now colours) ≡ 64 ⌝ }
+    ensures { λ r. ⌜ PaletteOf r (now (colours .entry)) ⌝ }
+{
+    pixels::pixels(colours, 0)
+}
+
+// Writes a line of colour indexes as a row of pixels. The palette comes as words, made once, since
+// a pixel is then one read and one store.
+pub fn expand(line: &[u8], palette: [u32; 16], row: &mut [u8])
+    requires { ⌜ length (now row) ≡ 4 * length (now line) ⌝ }
+    ensures { λ _. ⌜ now (row .exit) ≡ tab (length (now (row .entry))) (colourByte (now (line .entry)) palette) ⌝ }
+{
+    let j = rows::expand_fours(line, palette, row);
+    rows::expand_rest(line, palette, row, j);
+}
+
+// Fills a row with one opaque colour.
+pub fn fill(out: &mut [u8], c0: u8, c1: u8, c2: u8)
+    requires { ⌜ length (now out) % 4 ≡ 0 ⌝ }
+    ensures { λ _. ⌜ now (out .exit) ≡ tab (length (now (out .entry))) (fillByte c0 c1 c2) ⌝ }
+{
+    let i = rows::fill_blocks(out, c0, c1, c2);
+    rows::fill_rest(out, i, c0, c1, c2);
+}
