@@ -18,9 +18,10 @@ use Rattle.tables.specs.Selection.{endOf, namedBy}
 use Rattle.lists.proofs.Choice.{orElse-right}
 use Rattle.display.specs.declared.Display.{Display}
 use Rattle.display.specs.declared.Told.{Told}
-use Rattle.display.specs.State.{fresh, pickTold, stepped, writeOf, selectOf, toggleOf, startOf}
+use Rattle.display.specs.State.{fresh, pickTold, withErrors, stepped, writeOf, selectOf, toggleOf, startOf}
 use Rattle.display.specs.Put.{putAnswer, pickState, putState, putOf}
-use Rattle.display.specs.Reached.{Reached, by-new, by-write, by-select, by-toggle, by-start, by-put, Sound}
+use Rattle.display.specs.Paint.{fillTold, paintTold, frameTold}
+use Rattle.display.specs.Reached.{Reached, by-new, by-write, by-select, by-toggle, by-start, by-put, by-fill, by-paint, by-frame, Sound}
 
 -- what holds of both arms holds of the choice
 pickTold-keeps : (P : Told → Type 0) (t : Bool) (x y : Told) → (t ≡ true → P x) → (t ≡ false → P y) → P (pickTold t x y)
@@ -113,6 +114,23 @@ module _ (d : Display) (s : Sound d) where
       (λ f. record { pending = s .pending; active = s .active; accepted = s .accepted; selection = s .selection; place = s .place })
       (λ f. s))
 
+  -- painting changes the error word alone
+  errors-sound : (errors : ℕ) → Sound (withErrors d errors)
+  errors-sound errors =
+      record { pending = s .pending; active = s .active; accepted = s .accepted; selection = s .selection; place = s .place }
+
+  pub fill-sound : (out : List ℕ) → Sound (fillTold d out .state)
+  unfolding fillTold
+  fill-sound out = s
+
+  pub paint-sound : (a b : ℕ) (tables pictures out : List ℕ) → Sound (paintTold d a b tables pictures out .state)
+  unfolding paintTold
+  paint-sound a b tables pictures out = errors-sound _
+
+  pub frame-sound : (tables pictures out : List ℕ) → Sound (frameTold d tables pictures out .state)
+  unfolding frameTold
+  frame-sound tables pictures out = errors-sound _
+
 pub reached-sound : {d : Display} → Reached d → Sound d
 reached-sound by-new = fresh-sound
 reached-sound (by-write {d} register value r) = write-sound d (reached-sound r) register value
@@ -120,3 +138,6 @@ reached-sound (by-select {d} selection r) = select-sound d (reached-sound r) sel
 reached-sound (by-toggle {d} bits r) = toggle-sound d (reached-sound r) bits
 reached-sound (by-start {d} r) = start-sound d (reached-sound r)
 reached-sound (by-put {d} tables r) = put-sound d (reached-sound r) tables
+reached-sound (by-fill {d} out r) = fill-sound d (reached-sound r) out
+reached-sound (by-paint {d} a b tables pictures out r) = paint-sound d (reached-sound r) a b tables pictures out
+reached-sound (by-frame {d} tables pictures out r) = frame-sound d (reached-sound r) tables pictures out

@@ -1,5 +1,5 @@
--- No two outcomes meet a call's promise: each outcome is the answer, the state and, for put, every
--- byte of the tables. Assumes nothing.
+-- No two outcomes meet a call's promise: an outcome is the answer, the state and every byte of the
+-- buffer that the call writes. Assumes nothing.
 use mathlib.Core.Path.{_≡_, sym, _∙_}
 use mathlib.Core.List.{List}
 use Prim.Native.Nat.{ℕ}
@@ -8,6 +8,7 @@ use Rattle.display.specs.declared.Display.{Display}
 use Rattle.display.specs.declared.Told.{Told}
 use Rattle.display.specs.State.{fresh, writeOf, selectOf, toggleOf, startOf}
 use Rattle.display.specs.Put.{putOf, putTables}
+use Rattle.display.specs.Paint.{fillTold, fillBytes, paintTold, paintBytes, frameTold, frameBytes}
 
 -- two that equal a third
 same : {A : Type 0} {x y z : A} → x ≡ z → y ≡ z → x ≡ y
@@ -34,6 +35,22 @@ module _ (d : Display) {a b : Told} where
       → (b ≡ putOf d tables) × (t ≡ putTables d tables byte)
       → (a ≡ b) × (s ≡ t)
   put-unique tables byte p q = (same (p .0) (q .0), same (p .1) (q .1))
+
+  pub fill-unique : (out : List ℕ) {s t : List ℕ} → (a ≡ fillTold d out) × (s ≡ fillBytes d out) → (b ≡ fillTold d out) × (t ≡ fillBytes d out)
+      → (a ≡ b) × (s ≡ t)
+  fill-unique out p q = (same (p .0) (q .0), same (p .1) (q .1))
+
+  pub paint-unique : (low high : ℕ) (tables pictures out : List ℕ) {s t : List ℕ}
+      → (a ≡ paintTold d low high tables pictures out) × (s ≡ paintBytes d low high tables pictures out)
+      → (b ≡ paintTold d low high tables pictures out) × (t ≡ paintBytes d low high tables pictures out)
+      → (a ≡ b) × (s ≡ t)
+  paint-unique low high tables pictures out p q = (same (p .0) (q .0), same (p .1) (q .1))
+
+  pub frame-unique : (tables pictures out : List ℕ) {s t : List ℕ}
+      → (a ≡ frameTold d tables pictures out) × (s ≡ frameBytes d tables pictures out)
+      → (b ≡ frameTold d tables pictures out) × (t ≡ frameBytes d tables pictures out)
+      → (a ≡ b) × (s ≡ t)
+  frame-unique tables pictures out p q = (same (p .0) (q .0), same (p .1) (q .1))
 
 -- the reads answer a number of the state
 module _ (d : Display) {a b : ℕ} where

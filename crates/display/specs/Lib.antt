@@ -1,4 +1,5 @@
 -- What `src/lib.rt` promises. Assumes nothing.
 pub mod State
 pub mod Put
+pub mod Paint
 pub mod Reached

@@ -11,6 +11,7 @@ use Rattle.tables.specs.Selection.{endOf}
 use Rattle.display.specs.declared.Display.{Display}
 use Rattle.display.specs.State.{fresh, writeOf, selectOf, toggleOf, startOf}
 use Rattle.display.specs.Put.{putOf}
+use Rattle.display.specs.Paint.{fillTold, paintTold, frameTold}
 
 -- the fresh state, and what each call makes of one that has come to be
 pub data Reached : Display → Type 0 where
@@ -20,6 +21,9 @@ pub data Reached : Display → Type 0 where
   by-toggle : {d : Display} (bits : ℕ) → Reached d → Reached (toggleOf d bits .state)
   by-start : {d : Display} → Reached d → Reached (startOf d .state)
   by-put : {d : Display} (tables : List ℕ) → Reached d → Reached (putOf d tables .state)
+  by-fill : {d : Display} (out : List ℕ) → Reached d → Reached (fillTold d out .state)
+  by-paint : {d : Display} (a b : ℕ) (tables pictures out : List ℕ) → Reached d → Reached (paintTold d a b tables pictures out .state)
+  by-frame : {d : Display} (tables pictures out : List ℕ) → Reached d → Reached (frameTold d tables pictures out .state)
 
 -- there are 52 words of each; the active ones are all 0 or pass the check; the selection is in range,
 -- and the place at most at its table's end

@@ -4,6 +4,7 @@ ghost use mathlib.Core.Path.{_≡_};
 ghost use Rattle.words.specs.Fields.{widthOf, heightOf};
 ghost use Rattle.display.specs.State.{fresh, toldAt, writeOf, selectOf, toggleOf, startOf};
 ghost use Rattle.display.specs.Put.{putOf, putTables};
+ghost use Rattle.display.specs.Paint.{fillTold, fillBytes, paintTold, paintBytes, frameTold, frameBytes};
 use answers::BANK_ACTIVE;
 use answers::BANK_FULL;
 use answers::DONE;
@@ -177,6 +178,47 @@ impl Display {
         Told {
             state: self,
             answer: BANK_FULL,
+        }
+    }
+
+    // Fills the output with the background. Refused with 12 where no start has given the output a size,
+    // and with 13 where `out` is not 4 bytes for each pixel; a refusal changes nothing.
+    pub fn fill(self, out: &mut [u8]) -> Told
+        ensures state { λ r. ⌜ r ≡ fillTold self (now (out .entry)) ⌝ }
+        ensures output { λ _. ⌜ now (out .exit) ≡ fillBytes self (now (out .entry)) ⌝ }
+    {
+        let answer = paint::fill(&self.active, out);
+        Told {
+            state: self,
+            answer: answer,
+        }
+    }
+
+    // Paints the layers of depths from `low` up to but not `high` over what `out` holds, and sets error bit
+    // 4n for each graphics layer n among them whose list has no END. Refused with 15, 12, 13, 6, 14 in
+    // this order; a refusal changes nothing.
+    pub fn paint(mut self, low: u32, high: u32, tables: &[u8], pictures: &[u8], out: &mut [u8]) -> Told
+        ensures state { λ r. ⌜ r ≡ paintTold self low high (now (tables .entry)) (now (pictures .entry)) (now (out .entry)) ⌝ }
+        ensures output { λ _. ⌜ now (out .exit) ≡ paintBytes self low high (now (tables .entry)) (now (pictures .entry)) (now (out .entry)) ⌝ }
+    {
+        let painted = paint::band(&self.active, self.frame, self.errors, low, high, tables, pictures, out);
+        self.errors = painted.errors;
+        Told {
+            state: self,
+            answer: painted.answer,
+        }
+    }
+
+    // Paints a whole frame: a fill, and the layers of every depth. Refused as `paint` is, before the fill.
+    pub fn frame(mut self, tables: &[u8], pictures: &[u8], out: &mut [u8]) -> Told
+        ensures state { λ r. ⌜ r ≡ frameTold self (now (tables .entry)) (now (pictures .entry)) (now (out .entry)) ⌝ }
+        ensures output { λ _. ⌜ now (out .exit) ≡ frameBytes self (now (tables .entry)) (now (pictures .entry)) (now (out .entry)) ⌝ }
+    {
+        let painted = paint::frame(&self.active, self.frame, self.errors, tables, pictures, out);
+        self.errors = painted.errors;
+        Told {
+            state: self,
+            answer: painted.answer,
         }
     }
 
