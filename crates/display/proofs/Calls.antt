@@ -2,6 +2,7 @@
 use Prim.Native.Nat.{ℕ, _+_, _%_, _^_, _<_}
 use mathlib.Core.Path.{_≡_, refl, ap}
 use mathlib.Core.Bool.{Bool, true, false}
+use mathlib.Core.List.{List}
 use borrow.Author.Tests.{lt-ltb}
 use lib.Dec.{eqb}
 use Rattle.lists.proofs.Bits.{xor-twice}
@@ -10,7 +11,16 @@ use Rattle.words.specs.Fields.{updateOf}
 use Rattle.words.specs.Check.{checkOf}
 use Rattle.display.specs.declared.Display.{Display}
 use Rattle.display.specs.declared.Told.{Told}
+use Rattle.paint.specs.Scene.{Scene}
+use Rattle.paint.specs.Frame as painting
+use Rattle.paint.proofs.CallerLaws.{frameAfter-is, frameTold-is}
+use Rattle.display.specs.Paint.{sceneWith, toldBy, fillBytes, paintTold, paintBytes, frameTold, frameBytes}
 use Rattle.display.specs.State.{told, pickTold, withActive, withErrors, withSelection, stepped, selectOf, toggleOf, startOf}
+
+-- the answer of a frame is its refusal
+answer : (s : Scene) (out : List ℕ) {errors : ℕ} → painting.frameTold s out errors .answer ≡ done → painting.refusalOf s 0 8 out ≡ done
+unfolding painting.frameTold painting.paintTold
+answer s out e = e
 
 -- ---- start
 
@@ -44,3 +54,13 @@ module _ (d : Display) where
 
   pub toggle-toggle : (bits : ℕ) → toggleOf (toggleOf d bits .state) bits ≡ told d done
   toggle-toggle bits = ap (λ (e : ℕ). told (withErrors d e) done) (xor-twice (d .errors) bits)
+
+  -- ---- frame: a fill and band 0..8
+
+  pub frame-fill-paint : (tables pictures out : List ℕ) → frameTold d tables pictures out .answer ≡ done
+      → (frameBytes d tables pictures out ≡ paintBytes d 0 8 tables pictures (fillBytes d out))
+      × (frameTold d tables pictures out ≡ paintTold d 0 8 tables pictures (fillBytes d out))
+  unfolding frameTold frameBytes paintTold paintBytes fillBytes
+  frame-fill-paint tables pictures out e =
+      let s = sceneWith d tables pictures in
+      (frameAfter-is s out (answer s out e), ap (toldBy d) (frameTold-is s out (answer s out e) (d .errors)))

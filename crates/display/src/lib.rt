@@ -197,11 +197,27 @@ impl Display {
     // Paints the layers of depths from `low` up to but not `high` over what `out` holds, and sets error bit
     // 4n for each graphics layer n among them whose list has no END. Refused with 15, 12, 13, 6, 14 in
     // this order; a refusal changes nothing.
-    pub fn paint(mut self, low: u32, high: u32, tables: &[u8], pictures: &[u8], out: &mut [u8]) -> Told
+    pub fn paint(
+        mut self,
+        low: u32,
+        high: u32,
+        tables: &[u8],
+        pictures: &[u8],
+        out: &mut [u8],
+    ) -> Told
         ensures state { λ r. ⌜ r ≡ paintTold self low high (now (tables .entry)) (now (pictures .entry)) (now (out .entry)) ⌝ }
         ensures output { λ _. ⌜ now (out .exit) ≡ paintBytes self low high (now (tables .entry)) (now (pictures .entry)) (now (out .entry)) ⌝ }
     {
-        let painted = paint::band(&self.active, self.frame, self.errors, low, high, tables, pictures, out);
+        let painted = paint::band(
+            &self.active,
+            self.frame,
+            self.errors,
+            low,
+            high,
+            tables,
+            pictures,
+            out,
+        );
         self.errors = painted.errors;
         Told {
             state: self,

@@ -5,3 +5,4 @@ pub mod LineLaws
 pub mod DrawLaws
 pub mod RowsLaws
 pub mod FrameLaws
+pub mod CallerLaws

@@ -38,8 +38,9 @@ pub fn pictures_of(w: &[u32; 52]) -> Pictures
     let mut total: usize = 0;
     let mut n: usize = 0;
     while n < 8 {
+        let len = picture_len_at(w, n);
         starts[n] = total;
-        total += picture_len_at(w, n);
+        total += len;
         n += 1;
     }
     Pictures {

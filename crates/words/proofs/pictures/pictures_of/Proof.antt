@@ -16,14 +16,14 @@ abbrev μ-loop : tie.MeasureT-loop
 loop-holds : tie.Need-loop-holds Inv-loop μ-loop
 loop-holds c = (search needs, starts-none _)
 
+picture-len-at-requires : tie.Need-picture-len-at-requires Inv-loop μ-loop
+picture-len-at-requires c κs = search needs
+
 mul-starts : tie.Need-mul-starts Inv-loop μ-loop
 mul-starts c = search needs
 
 array-write-starts : tie.Need-array-write-starts Inv-loop μ-loop
 array-write-starts c = search needs
-
-picture-len-at-requires : tie.Need-picture-len-at-requires Inv-loop μ-loop
-picture-len-at-requires c κs = search needs
 
 add-total : tie.Need-add-total Inv-loop μ-loop
 add-total c =
@@ -49,9 +49,9 @@ pictures-of-spec =
     Inv-loop
     μ-loop
     loop-holds
+    picture-len-at-requires
     mul-starts
     array-write-starts
-    picture-len-at-requires
     add-total
     add-n
     loop-less
