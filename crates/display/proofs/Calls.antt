@@ -18,9 +18,9 @@ use Rattle.display.specs.Paint.{sceneWith, toldBy, fillBytes, paintTold,
 use Rattle.display.specs.State.{told, pickTold, withActive, withErrors, withSelection, stepped, selectOf, toggleOf, startOf}
 
 -- the answer of a frame is its refusal
-answer : (s : Scene) (out : List ℕ) {errors : ℕ} → painting.frameTold s out errors .answer ≡ done → painting.refusalOf s 0 8 out ≡ done
+answer : (s : Scene) (out : List ℕ) (errors : ℕ) → painting.frameTold s out errors .answer ≡ done → painting.refusalOf s 0 8 out ≡ done
 unfolding painting.frameTold painting.paintTold
-answer s out e = e
+answer s out errors e = e
 
 -- ---- start
 
@@ -63,4 +63,4 @@ module _ (d : Display) where
   unfolding frameTold frameBytes paintTold paintBytes fillBytes
   frame-fill-paint tables pictures out e =
       let s = sceneWith d tables pictures in
-      (frameAfter-is s out (answer s out e), ap (toldBy d) (frameTold-is s out (answer s out e) (d .errors)))
+      (frameAfter-is s out (answer s out (d .errors) e), ap (toldBy d) (frameTold-is s out (answer s out (d .errors) e) (d .errors)))
