@@ -10,3 +10,4 @@ pub mod Bits
 pub mod Digits
 pub mod Run
 pub mod Steps
+pub mod Over

@@ -1,6 +1,7 @@
--- Choices by a test, lists by a rule, steps in a row. Assumes nothing.
+-- Choices by a test, lists by a rule, steps in a row, a written front. Assumes nothing.
 pub mod Choice
 pub mod Tab
 pub mod Runs
 pub mod Zero
 pub mod Steps
+pub mod Over

@@ -1,0 +1,36 @@
+//! 01 "Answers by number", row for row.
+
+/// "done"
+pub const DONE: u32 = 0;
+/// "write: register above 51"
+pub const NO_REGISTER: u32 = 1;
+/// "select: above 63"
+pub const NO_BANK: u32 = 2;
+/// "put: nothing selected"
+pub const NOTHING_SELECTED: u32 = 3;
+/// "put: the active word 3 names the selected bank"
+pub const BANK_ACTIVE: u32 = 4;
+/// "put: place is at the kind's end"
+pub const BANK_FULL: u32 = 5;
+/// "put, paint: tables not 29,696 bytes"
+pub const WRONG_TABLES: u32 = 6;
+/// "start: a reserved bit is set in any pending word"
+pub const RESERVED_BIT: u32 = 7;
+/// "start: output width or height 0"
+pub const NO_OUTPUT: u32 = 8;
+/// "start: enabled layer with width or height 0"
+pub const EMPTY_LAYER: u32 = 9;
+/// "start: enabled layer with x+width > output width, or y+height > output height"
+pub const LAYER_OUTSIDE: u32 = 10;
+/// "start: two enabled layers of one depth"
+pub const SAME_DEPTH: u32 = 11;
+/// "fill, paint: active output size still 0"
+pub const NOTHING_ACTIVE: u32 = 12;
+/// "fill, paint: output not 4·width·height bytes"
+pub const WRONG_OUTPUT: u32 = 13;
+/// "paint: pictures of the wrong total length"
+pub const WRONG_PICTURES: u32 = 14;
+/// "paint a band: lower end above upper, or upper above 8"
+pub const WRONG_BAND: u32 = 15;
+/// "host entry: register image not 208 bytes"
+pub const WRONG_IMAGE: u32 = 16;

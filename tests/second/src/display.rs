@@ -1,0 +1,187 @@
+//! 01 "What the display is made of", "Registers", "Tables" and "Answers by number": the state and
+//! its calls. Every call answers its number.
+
+use crate::answers::*;
+use crate::paint;
+use crate::tables::{Bank, TABLES_LEN};
+use crate::words::{Words, WORDS};
+
+/// "The state holds pending registers, active registers, frame number (32 bits), error word (32
+/// bits), and a table selection with its place."
+#[derive(Clone, Debug, PartialEq, Eq)]
+pub struct Display {
+    pending: Words,
+    active: Words,
+    frame: u32,
+    errors: u32,
+    selected: Option<Selected>,
+}
+
+#[derive(Clone, Debug, PartialEq, Eq)]
+struct Selected {
+    bank: Bank,
+    place: usize,
+}
+
+impl Default for Display {
+    fn default() -> Display {
+        Display::new()
+    }
+}
+
+impl Display {
+    /// "A fresh state has all numbers 0 and nothing selected."
+    pub fn new() -> Display {
+        Display {
+            pending: Words::fresh(),
+            active: Words::fresh(),
+            frame: 0,
+            errors: 0,
+            selected: None,
+        }
+    }
+
+    pub fn errors(&self) -> u32 {
+        self.errors
+    }
+
+    pub fn frame_number(&self) -> u32 {
+        self.frame
+    }
+
+    pub fn width(&self) -> i64 {
+        self.active.width()
+    }
+
+    pub fn height(&self) -> i64 {
+        self.active.height()
+    }
+
+    /// The pending words, which the generators go on from.
+    pub fn pending(&self) -> &Words {
+        &self.pending
+    }
+
+    /// The active words, which say what the generators have to lend.
+    pub fn active(&self) -> &Words {
+        &self.active
+    }
+
+    /// "A write changes the pending word."
+    pub fn write(&mut self, register: u32, value: u32) -> u32 {
+        if register as usize >= WORDS {
+            return NO_REGISTER;
+        }
+        self.pending.0[register as usize] = value;
+        DONE
+    }
+
+    /// "Selecting sets the place to 0, also when it selects the same bank again."
+    pub fn select(&mut self, selection: u32) -> u32 {
+        let Some(bank) = Bank::of_selection(selection) else {
+            return NO_BANK;
+        };
+        self.selected = Some(Selected { bank, place: 0 });
+        DONE
+    }
+
+    /// "Error bits are toggled by writing: each 1 clears a set bit and sets a clear one, all 32 of
+    /// them (000); this is never refused."
+    pub fn toggle(&mut self, bits: u32) -> u32 {
+        self.errors ^= bits;
+        DONE
+    }
+
+    /// "Starting a frame adds one to the frame number, wrapping at 2^32. Then, if the pending
+    /// update bit is set, the pending words are checked, and if they pass they become the active
+    /// ones."
+    pub fn start(&mut self) -> u32 {
+        self.frame = self.frame.wrapping_add(1);
+        if !self.pending.update_enabled() {
+            return DONE;
+        }
+        let answer = self.pending.check();
+        if answer == DONE {
+            self.active = self.pending.clone();
+        }
+        answer
+    }
+
+    /// "Order: put 6, 3, 4, 5." and "Each put stores one byte and moves the place by one."
+    pub fn put(&mut self, tables: &mut [u8], byte: u8) -> u32 {
+        if tables.len() != TABLES_LEN {
+            return WRONG_TABLES;
+        }
+        let Some(Selected { bank, place }) = &mut self.selected else {
+            return NOTHING_SELECTED;
+        };
+        if self.active.bank(bank.kind, bank.g) == bank.b {
+            return BANK_ACTIVE;
+        }
+        if *place == bank.kind.end() {
+            // "error bit 4g+1 set, else unchanged"
+            self.errors |= 1 << (4 * bank.g + 1);
+            return BANK_FULL;
+        }
+        tables[bank.start() + *place] = byte;
+        *place += 1;
+        DONE
+    }
+
+    /// "Fill writes the background to every pixel.", whether or not the display is on.
+    pub fn fill(&mut self, out: &mut [u8]) -> u32 {
+        if self.active.output_len() == 0 {
+            return NOTHING_ACTIVE;
+        }
+        if out.len() as i64 != self.active.output_len() {
+            return WRONG_OUTPUT;
+        }
+        paint::fill(&self.active, out);
+        DONE
+    }
+
+    /// "Paint 15, 12, 13, 6, 14."
+    fn paint_refusal(
+        &self,
+        low: u32,
+        high: u32,
+        tables: &[u8],
+        pictures: &[u8],
+        out: &[u8],
+    ) -> u32 {
+        if low > high || high > 8 {
+            return WRONG_BAND;
+        }
+        if self.active.output_len() == 0 {
+            return NOTHING_ACTIVE;
+        }
+        paint::buffer_refusal(&self.active, tables, pictures, out)
+    }
+
+    /// "Painting the band a..b (depths from a up to but not b) blends the enabled layers of those
+    /// depths".
+    pub fn paint(
+        &mut self,
+        low: u32,
+        high: u32,
+        tables: &[u8],
+        pictures: &[u8],
+        out: &mut [u8],
+    ) -> u32 {
+        let answer = self.paint_refusal(low, high, tables, pictures, out);
+        if answer == DONE {
+            self.errors |= paint::band(&self.active, self.frame, low, high, tables, pictures, out);
+        }
+        answer
+    }
+
+    /// "A whole frame is a fill and band 0..8, refused as paint."
+    pub fn frame(&mut self, tables: &[u8], pictures: &[u8], out: &mut [u8]) -> u32 {
+        let answer = self.paint_refusal(0, 8, tables, pictures, out);
+        if answer == DONE {
+            paint::fill(&self.active, out);
+            self.errors |= paint::band(&self.active, self.frame, 0, 8, tables, pictures, out);
+        }
+        answer
+    }
+}

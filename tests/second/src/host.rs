@@ -1,0 +1,32 @@
+//! 01 "Sheet program and host entry", its last paragraph: a whole frame from a register image,
+//! without a state.
+
+use crate::answers::*;
+use crate::paint;
+use crate::words::{Words, WORDS};
+
+/// "a 208-byte register image (52 little-endian words)"
+pub const IMAGE_LEN: usize = 4 * WORDS;
+
+/// "The image counts as active once checked as at a start, without regard to the update bit. Order
+/// 16, 7, 8, 9 and 10, 11, 13, 6, 14. It paints a whole frame and answers the number; error bits
+/// are dropped, and every refusal leaves the output unchanged."
+pub fn host_frame(image: &[u8], frame: u32, tables: &[u8], pictures: &[u8], out: &mut [u8]) -> u32 {
+    if image.len() != IMAGE_LEN {
+        return WRONG_IMAGE;
+    }
+    let words = Words(std::array::from_fn(|register| {
+        let at = 4 * register;
+        u32::from_le_bytes([image[at], image[at + 1], image[at + 2], image[at + 3]])
+    }));
+    let answer = words.check();
+    if answer != DONE {
+        return answer;
+    }
+    let answer = paint::buffer_refusal(&words, tables, pictures, out);
+    if answer == DONE {
+        paint::fill(&words, out);
+        paint::band(&words, frame, 0, 8, tables, pictures, out);
+    }
+    answer
+}

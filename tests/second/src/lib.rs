@@ -1,0 +1,15 @@
+//! A second on-screen display, written from document 01 alone and sharing no code with the first.
+//! It is plain and slow: every pixel is worked out by itself. "01" in a header names a section of
+//! that document.
+
+pub mod answers;
+pub mod cases;
+pub mod display;
+pub mod draw;
+pub mod fade;
+pub mod host;
+pub mod paint;
+pub mod rng;
+pub mod sheet;
+pub mod tables;
+pub mod words;

@@ -1,0 +1,118 @@
+//! 01 "Painting": fill, blend and bands over a lent output, for words that have passed their
+//! checks. The state and most refusals are in `display`.
+
+use crate::answers::*;
+use crate::draw::List;
+use crate::tables::{active_bytes, Kind, TABLES_LEN};
+use crate::words::{Layer, Words, LAYERS};
+
+/// "Blend of one channel over what is under it (house): (a·over + (255−a)·under + 127) divided by
+/// 255, rounded down."
+pub fn blend(a: u32, over: u32, under: u32) -> u32 {
+    (a * over + (255 - a) * under + 127) / 255
+}
+
+/// The end of paint's order and of the host entry's: "13, 6, 14".
+pub fn buffer_refusal(words: &Words, tables: &[u8], pictures: &[u8], out: &[u8]) -> u32 {
+    if out.len() as i64 != words.output_len() {
+        WRONG_OUTPUT
+    } else if tables.len() != TABLES_LEN {
+        WRONG_TABLES
+    } else if pictures.len() as i64 != words.pictures_len() {
+        WRONG_PICTURES
+    } else {
+        DONE
+    }
+}
+
+/// "Fill writes the background to every pixel." and "Output alpha is always 255 once filled."
+pub fn fill(words: &Words, out: &mut [u8]) {
+    let [channel_0, channel_1, channel_2] = words.background();
+    for pixel in out.chunks_mut(4) {
+        pixel.copy_from_slice(&[channel_0, channel_1, channel_2, 255]);
+    }
+}
+
+/// "Painting the band a..b (depths from a up to but not b) blends the enabled layers of those
+/// depths, in rising depth, over what the buffer holds" and "With the display off a band changes
+/// nothing". Answers the error bits that it sets.
+pub fn band(
+    words: &Words,
+    frame: u32,
+    low: u32,
+    high: u32,
+    tables: &[u8],
+    pictures: &[u8],
+    out: &mut [u8],
+) -> u32 {
+    let mut errors = 0;
+    if !words.display_on() {
+        return errors;
+    }
+    for depth in low..high {
+        for n in 0..LAYERS {
+            let layer = words.layer(n);
+            if !layer.enabled || layer.depth != depth {
+                continue;
+            }
+            if layer.graphics {
+                errors |= graphics_layer(words, n, frame, tables, out);
+            } else {
+                frame_layer(words, n, frame, pictures, out);
+            }
+        }
+    }
+    errors
+}
+
+/// A frame layer's picture is "in raster order".
+fn frame_layer(words: &Words, n: usize, frame: u32, pictures: &[u8], out: &mut [u8]) {
+    let layer = words.layer(n);
+    let start = words.picture_start(n);
+    for v in 0..layer.height {
+        for u in 0..layer.width {
+            let at = (start + 4 * (layer.width * v + u)) as usize;
+            blend_pixel(words, &layer, frame, u, v, &pictures[at..at + 4], out);
+        }
+    }
+}
+
+/// "The colour table gives channel 0, 1, 2, alpha for an index (000)." and "No END means that
+/// painting the layer sets error bit 4n (000)."
+fn graphics_layer(words: &Words, n: usize, frame: u32, tables: &[u8], out: &mut [u8]) -> u32 {
+    let layer = words.layer(n);
+    let list = List::read(active_bytes(words, Kind::Instruction, n, tables));
+    let colours = active_bytes(words, Kind::Colour, n, tables);
+    let strings = active_bytes(words, Kind::Text, n, tables);
+    let font = active_bytes(words, Kind::Font, n, tables);
+    for v in 0..layer.height {
+        for u in 0..layer.width {
+            let at = 4 * list.index_at(strings, font, u, v);
+            blend_pixel(words, &layer, frame, u, v, &colours[at..at + 4], out);
+        }
+    }
+    if list.ended {
+        0
+    } else {
+        1 << (4 * n)
+    }
+}
+
+/// "a is the pixel's alpha, or, with global alpha set, the fade value." and "Alpha bytes of the
+/// output are written by fill only." u and v count from the layer's corner.
+fn blend_pixel(
+    words: &Words,
+    layer: &Layer,
+    frame: u32,
+    u: i64,
+    v: i64,
+    over: &[u8],
+    out: &mut [u8],
+) {
+    let a = if layer.global_alpha { layer.fade.at(frame) } else { u32::from(over[3]) };
+    let at = (4 * (words.width() * (layer.y + v) + layer.x + u)) as usize;
+    for channel in 0..3 {
+        let under = u32::from(out[at + channel]);
+        out[at + channel] = blend(a, u32::from(over[channel]), under) as u8;
+    }
+}

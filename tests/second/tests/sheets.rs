@@ -1,0 +1,218 @@
+//! The sheet program beside this display: both read the same sheets, and must print the same bytes.
+//!
+//!   SPOONWING_SHEET   the program, ../../target/bin/sheet unless set
+//!   SPOONWING_LINES   how many generated lines to compare, 2,000 unless set
+//!   SPOONWING_SEED    compares the sheet of this one seed only, aloud
+
+use second::cases::{byte_sheet, drawing_sheet, gen_sheet, line_text, number_sheet, word_sheet};
+use second::sheet::{print_sheet, Line};
+use std::env;
+use std::io::Write;
+use std::path::{Path, PathBuf};
+use std::process::{Command, Stdio};
+use std::thread;
+
+const LINES_A_SHEET: usize = 40;
+
+/// Sheets whose form is the point. A sheet on which the two have ever differed gets a row here.
+const FIXED: [(&str, &[u8]); 11] = [
+    ("the worked line", b"00030000000005010001000202003020100000\n"),
+    ("the worked line without its line feed", b"00030000000005010001000202003020100000"),
+    ("mixed case, after an FE", b"fe\n0003000000000501000100020200AbcDeF0000\n"),
+    ("an empty sheet", b""),
+    ("a lone line feed", b"\n"),
+    ("two line feeds and a bare digit", b"\n\n0"),
+    ("nothing active", b"00000000\n00000000"),
+    ("carriage returns", b"00000000\r\n00000000\n\r\n"),
+    ("a space, a NUL and a sign", b"00000000 \n\x0000000000\n+0000000\n"),
+    ("something after the picture bytes", b"0000000000\n00000001AA\n00000001AABB\n"),
+    ("a load of no bytes into an active bank", b"010000000103000000000000\n0100000100000000\n"),
+];
+
+fn number(name: &str) -> Option<u64> {
+    env::var(name)
+        .ok()
+        .map(|text| text.parse().unwrap_or_else(|_| panic!("{name} is not a number: {text}")))
+}
+
+fn program() -> PathBuf {
+    let set = env::var_os("SPOONWING_SHEET").unwrap_or("../../target/bin/sheet".into());
+    Path::new(env!("CARGO_MANIFEST_DIR")).join(set)
+}
+
+/// What a program prints for a sheet. Its input is written beside the reading of its output, since
+/// either pipe may fill up.
+fn run(program: &Path, sheet: &[u8]) -> Vec<u8> {
+    let mut child = Command::new(program)
+        .stdin(Stdio::piped())
+        .stdout(Stdio::piped())
+        .spawn()
+        .unwrap_or_else(|error| panic!("{} does not run: {error}", program.display()));
+    let mut input = child.stdin.take().expect("it is piped");
+    let sheet = sheet.to_vec();
+    // A program that stops reading shows itself by its output, so a broken pipe is no failure of
+    // its own.
+    let writer = thread::spawn(move || drop(input.write_all(&sheet)));
+    let output = child.wait_with_output().expect("it was started");
+    writer.join().expect("writing does not panic");
+    let mut printed = output.stdout;
+    if !output.status.success() {
+        // It counts as a difference like any other, so that a sheet which ends the program is made
+        // small too.
+        printed.extend(format!("({})\n", output.status).into_bytes());
+    }
+    printed
+}
+
+/// Compares one sheet; a difference is told with the first line that differs and a smaller sheet
+/// that differs too.
+fn compare(name: &str, sheet: &[u8], other: &dyn Fn(&[u8]) -> Vec<u8>) -> Result<(), String> {
+    let (ours, theirs) = (print_sheet(sheet), other(sheet));
+    if ours == theirs {
+        return Ok(());
+    }
+    let (ours, theirs) = (lines(&ours), lines(&theirs));
+    let first = (0..).find(|&i| ours.get(i) != theirs.get(i)).expect("they differ");
+    let shown = |printed: &[Vec<u8>]| match printed.get(first) {
+        Some(line) => line.escape_ascii().to_string(),
+        None => "nothing".to_string(),
+    };
+    let differs = |lines: &[Vec<u8>]| print_sheet(&lines.concat()) != other(&lines.concat());
+    // What follows the first difference is seldom needed to show it.
+    let up_to_it: Vec<Vec<u8>> = lines(sheet).into_iter().take(first + 1).collect();
+    let needed = if differs(&up_to_it) { up_to_it } else { lines(sheet) };
+    let small = with_lighter_lines(with_fewer_lines(needed, &differs), &differs);
+    let told = [
+        format!("{name} differs at line {} of {}", first + 1, ours.len()),
+        format!("it reads  {}", shown(&lines(sheet))),
+        format!("we print  {}", shown(&ours)),
+        format!("it prints {}", shown(&theirs)),
+        format!("a small sheet that differs, of {} lines:", small.len()),
+        small.concat().escape_ascii().to_string().replace("\\n", "\n"),
+        format!("we print for it\n{}", String::from_utf8_lossy(&print_sheet(&small.concat()))),
+        format!("it prints for it\n{}", String::from_utf8_lossy(&other(&small.concat()))),
+    ];
+    Err(told.join("\n"))
+}
+
+/// The lines of a text, each with its line feed; the last may have none.
+fn lines(text: &[u8]) -> Vec<Vec<u8>> {
+    text.split_inclusive(|&byte| byte == b'\n').map(<[u8]>::to_vec).collect()
+}
+
+/// Drops runs of lines, long runs first, as long as the sheet still differs.
+fn with_fewer_lines(mut lines: Vec<Vec<u8>>, differs: &dyn Fn(&[Vec<u8>]) -> bool) -> Vec<Vec<u8>> {
+    let mut run = lines.len() / 2;
+    while run > 0 {
+        let mut at = 0;
+        while at + run <= lines.len() {
+            let mut fewer = lines.clone();
+            fewer.drain(at..at + run);
+            if differs(&fewer) {
+                lines = fewer;
+            } else {
+                at += 1;
+            }
+        }
+        run /= 2;
+    }
+    lines
+}
+
+/// Drops single loads and writes of the well formed lines, as long as the sheet still differs.
+fn with_lighter_lines(
+    mut lines: Vec<Vec<u8>>,
+    differs: &dyn Fn(&[Vec<u8>]) -> bool,
+) -> Vec<Vec<u8>> {
+    for at in 0..lines.len() {
+        let Some(mut line) = Line::read(lines[at].strip_suffix(b"\n").unwrap_or(&lines[at])) else {
+            continue;
+        };
+        for step in (0..line.loads.len() + line.writes.len()).rev() {
+            let mut lighter = line.clone();
+            match step.checked_sub(line.loads.len()) {
+                Some(write) => drop(lighter.writes.remove(write)),
+                None => drop(lighter.loads.remove(step)),
+            }
+            let mut fewer = lines.clone();
+            fewer[at] = line_text(&lighter);
+            if differs(&fewer) {
+                lines = fewer;
+                line = lighter;
+            }
+        }
+    }
+    lines
+}
+
+fn compare_generated(seed: u64, other: &dyn Fn(&[u8]) -> Vec<u8>) -> Result<(), String> {
+    compare(&format!("the sheet of seed {seed}"), &gen_sheet(seed, LINES_A_SHEET), other)
+}
+
+#[test]
+fn the_program_prints_the_fixed_sheets() {
+    let program = program();
+    for (name, sheet) in FIXED {
+        compare(name, sheet, &|sheet| run(&program, sheet)).unwrap_or_else(|told| panic!("{told}"));
+    }
+}
+
+/// Every bit of every register and every two faults of a scene, every number of two digits, every
+/// byte in place of a digit, every character, opcode and weight.
+#[test]
+fn the_program_prints_the_sweeps() {
+    let program = program();
+    for (name, sheet) in [
+        ("the sheet of words", word_sheet()),
+        ("the sheet of numbers", number_sheet()),
+        ("the sheet of bytes", byte_sheet()),
+        ("the sheet of drawings", drawing_sheet()),
+    ] {
+        compare(name, &sheet, &|sheet| run(&program, sheet))
+            .unwrap_or_else(|told| panic!("{told}"));
+    }
+}
+
+#[test]
+fn the_program_prints_the_generated_sheets() {
+    let program = program();
+    let other = |sheet: &[u8]| run(&program, sheet);
+    let lines = number("SPOONWING_LINES").unwrap_or(2_000);
+    let mut seeds = 0..lines.div_ceil(LINES_A_SHEET as u64);
+    if let Some(seed) = number("SPOONWING_SEED") {
+        seeds = seed..seed + 1;
+        let sheet = gen_sheet(seed, LINES_A_SHEET);
+        println!("it reads\n{}", sheet.escape_ascii().to_string().replace("\\n", "\n"));
+        println!("we print\n{}", String::from_utf8_lossy(&print_sheet(&sheet)));
+    }
+    for seed in seeds {
+        compare_generated(seed, &other).unwrap_or_else(|told| panic!("{told}"));
+    }
+}
+
+/// The comparison itself, on a program that is known to agree.
+#[test]
+fn our_own_program_agrees() {
+    let own = Path::new(env!("CARGO_BIN_EXE_second_sheet"));
+    for (name, sheet) in FIXED {
+        compare(name, sheet, &|sheet| run(own, sheet)).unwrap_or_else(|told| panic!("{told}"));
+    }
+}
+
+/// And on one that is known not to: it answers 13 for 14 on every line but the first.
+#[test]
+fn an_impostor_is_caught_and_its_sheet_made_small() {
+    let impostor = |sheet: &[u8]| {
+        let printed = String::from_utf8(print_sheet(sheet)).expect("digits");
+        printed.replace("\n0E\n", "\n0D\n").into_bytes()
+    };
+    let caught = (0..5).find_map(|seed| compare_generated(seed, &impostor).err());
+    let told = caught.expect("the impostor goes unseen");
+    assert!(told.contains("we print  0E") && told.contains("it prints 0D"), "{told}");
+    let small = told
+        .split("a small sheet that differs, of ")
+        .nth(1)
+        .and_then(|rest| rest.split(' ').next());
+    let lines: usize = small.and_then(|count| count.parse().ok()).expect("it is told");
+    assert!(lines < 6, "{told}");
+}
