@@ -1,110 +1,85 @@
-//! The C host entry beside this display: both get the same image and buffers. Built with the
-//! feature `host` only.
+//! The C host entry beside this display: a C program that is linked with it gets the same image and
+//! buffers, each between guard bytes, and tells the answer and the output.
 //!
-//!   SPOONWING_HOST_DIR   libhost.a's folder, ../../target/staticlib unless set; read when building
-//!   SPOONWING_CALLS      how many calls to compare, 4,000 unless set
-//!   SPOONWING_SEED       compares the call of this one seed only, aloud
+//!   SPOONWING_HOST    the C host, ../../tools/c-host unless set (built by `tools/c-host build`)
+//!   SPOONWING_CALLS   how many generated calls to compare, 4,000 unless set
+//!   SPOONWING_SEED    compares the call of this one seed only, aloud
 
 use second::cases::{gen_host, word_images, HostCase};
 use second::host::host_frame;
 use second::tables::TABLES_LEN;
 use std::collections::BTreeMap;
 use std::env;
-use std::process::ExitCode;
+use std::io::{Read, Write};
+use std::path::Path;
+use std::process::{Child, Command, Stdio};
 
-#[link(name = "host", kind = "static")]
-extern "C" {
-    fn spoonwing_frame(
-        image: *const u8,
-        image_len: usize,
-        frame: u32,
-        tables: *const u8,
-        tables_len: usize,
-        pictures: *const u8,
-        pictures_len: usize,
-        output: *mut u8,
-        output_len: usize,
-    ) -> u32;
+/// The C host, which answers one call after another.
+struct Host {
+    child: Child,
 }
 
-/// Bytes before and after a buffer that no call may touch.
-const GUARD: [u8; 64] = [0xA5; 64];
-
-/// A buffer between two guards.
-struct Guarded {
-    bytes: Vec<u8>,
-}
-
-impl Guarded {
-    fn new(buffer: &[u8]) -> Guarded {
-        Guarded { bytes: [&GUARD, buffer, &GUARD].concat() }
+impl Host {
+    fn start() -> Host {
+        let set = env::var_os("SPOONWING_HOST").unwrap_or("../../tools/c-host".into());
+        let program = Path::new(env!("CARGO_MANIFEST_DIR")).join(set);
+        let child = Command::new(&program)
+            .stdin(Stdio::piped())
+            .stdout(Stdio::piped())
+            .spawn()
+            .unwrap_or_else(|error| panic!("{} does not run: {error}", program.display()));
+        Host { child }
     }
 
-    fn as_ptr(&self) -> *const u8 {
-        self.bytes[GUARD.len()..].as_ptr()
-    }
-
-    fn as_mut_ptr(&mut self) -> *mut u8 {
-        self.bytes[GUARD.len()..].as_mut_ptr()
-    }
-
-    /// The guards and exactly these bytes between them.
-    fn holds(&self, buffer: &[u8]) -> bool {
-        self.bytes == [&GUARD, buffer, &GUARD].concat()
+    /// The answer, whether a byte was touched that no call may touch, and the output.
+    fn call(&mut self, case: &HostCase) -> (u32, bool, Vec<u8>) {
+        let buffers = [&case.image, &case.tables, &case.pictures, &case.output];
+        let mut text = case.frame.to_le_bytes().to_vec();
+        for buffer in buffers {
+            text.extend((buffer.len() as u32).to_le_bytes());
+        }
+        for buffer in buffers {
+            text.extend(buffer);
+        }
+        let input = self.child.stdin.as_mut().expect("it is piped");
+        input.write_all(&text).and_then(|()| input.flush()).expect("the C host reads");
+        let mut told = vec![0; 8 + case.output.len()];
+        let output = self.child.stdout.as_mut().expect("it is piped");
+        output.read_exact(&mut told).expect("the C host answers");
+        let number = |at: usize| u32::from_le_bytes(told[at..at + 4].try_into().expect("four"));
+        (number(0), number(4) != 0, told[8..].to_vec())
     }
 }
 
 /// Makes both calls and answers their number, or says where they part.
-fn compare(case: &HostCase) -> Result<u32, String> {
+fn compare(host: &mut Host, case: &HostCase) -> Result<u32, String> {
     let mut ours = case.output.clone();
     let answer = host_frame(&case.image, case.frame, &case.tables, &case.pictures, &mut ours);
-
-    let image = Guarded::new(&case.image);
-    let tables = Guarded::new(&case.tables);
-    let pictures = Guarded::new(&case.pictures);
-    let mut output = Guarded::new(&case.output);
-    // SAFETY: each pointer is good for the length beside it, and the output is no part of the other
-    // buffers.
-    let theirs = unsafe {
-        spoonwing_frame(
-            image.as_ptr(),
-            case.image.len(),
-            case.frame,
-            tables.as_ptr(),
-            case.tables.len(),
-            pictures.as_ptr(),
-            case.pictures.len(),
-            output.as_mut_ptr(),
-            case.output.len(),
-        )
-    };
+    let (theirs, touched, painted) = host.call(case);
     if theirs != answer {
         return Err(format!("it answers {theirs}, we answer {answer}"));
     }
-    for (name, lent, bytes) in [
-        ("image", &image, &case.image),
-        ("tables", &tables, &case.tables),
-        ("pictures", &pictures, &case.pictures),
-    ] {
-        if !lent.holds(bytes) {
-            return Err(format!("the {name}, or a byte beside, is touched"));
-        }
+    if touched {
+        return Err("an input, or a byte beside a buffer, is touched".to_string());
     }
     // A refusal leaves our output as it was lent, so this covers refusals too.
-    if !output.holds(&ours) {
-        let painted = &output.bytes[GUARD.len()..];
-        return Err(match (0..ours.len()).find(|&at| painted[at] != ours[at]) {
-            Some(at) => {
-                format!("after {answer}, byte {at} is {}, and {} with us", painted[at], ours[at])
-            }
-            None => "a byte beside the output is touched".to_string(),
-        });
+    match (0..ours.len()).find(|&at| painted[at] != ours[at]) {
+        Some(at) => {
+            Err(format!("after {answer}, byte {at} is {}, and {} with us", painted[at], ours[at]))
+        }
+        None => Ok(answer),
     }
-    Ok(answer)
 }
 
-/// Every bit of an image that passes the other way round, and every two faults of it.
-fn compare_swept() -> Result<(), String> {
+fn number(name: &str) -> Option<u64> {
+    let text = env::var(name).ok()?;
+    Some(text.parse().unwrap_or_else(|_| panic!("{name} is not a number: {text}")))
+}
+
+#[test]
+fn the_entry_answers_the_swept_images() {
+    // Every bit of an image that passes the other way round, and every two faults of it.
+    let mut host = Host::start();
     for (i, image) in word_images().into_iter().enumerate() {
         let case = HostCase {
             image,
@@ -113,44 +88,27 @@ fn compare_swept() -> Result<(), String> {
             pictures: Vec::new(),
             output: vec![1, 2, 3, 4],
         };
-        compare(&case)
-            .map_err(|told| format!("image {i} of the sweep: {told}\n{:X?}", case.image))?;
-    }
-    Ok(())
-}
-
-fn compare_generated(calls: u64) -> Result<(), String> {
-    let mut counts = BTreeMap::new();
-    for seed in 0..calls {
-        let answer = compare(&gen_host(seed)).map_err(|told| format!("seed {seed}: {told}"))?;
-        *counts.entry(answer).or_insert(0) += 1;
-    }
-    println!("{calls} generated calls agree; by answer: {counts:?}");
-    Ok(())
-}
-
-fn number(name: &str) -> Result<Option<u64>, String> {
-    let Ok(text) = env::var(name) else { return Ok(None) };
-    text.parse().map(Some).map_err(|_| format!("{name} is not a number: {text}"))
-}
-
-fn compare_all() -> Result<(), String> {
-    if let Some(seed) = number("SPOONWING_SEED")? {
-        let case = gen_host(seed);
-        println!("{case:X?}");
-        println!("both answer {}", compare(&case)?);
-        return Ok(());
-    }
-    compare_swept()?;
-    compare_generated(number("SPOONWING_CALLS")?.unwrap_or(4_000))
-}
-
-fn main() -> ExitCode {
-    match compare_all() {
-        Ok(()) => ExitCode::SUCCESS,
-        Err(told) => {
-            eprintln!("the host entry differs: {told}");
-            ExitCode::FAILURE
+        if let Err(told) = compare(&mut host, &case) {
+            panic!("image {i} of the sweep: {told}\n{:X?}", case.image);
         }
     }
+}
+
+#[test]
+fn the_entry_answers_the_generated_calls() {
+    let mut host = Host::start();
+    if let Some(seed) = number("SPOONWING_SEED") {
+        let case = gen_host(seed);
+        println!("{case:X?}");
+        println!("both answer {}", compare(&mut host, &case).expect("they agree"));
+        return;
+    }
+    let mut counts = BTreeMap::new();
+    for seed in 0..number("SPOONWING_CALLS").unwrap_or(4_000) {
+        match compare(&mut host, &gen_host(seed)) {
+            Ok(answer) => *counts.entry(answer).or_insert(0) += 1,
+            Err(told) => panic!("seed {seed}: {told}"),
+        }
+    }
+    println!("by answer: {counts:?}");
 }

@@ -1,0 +1,56 @@
+-- `host::spoonwing_frame` meets its contract: each `return` is a case of `hostAnswer`, and a frame that is
+-- refused leaves the output itself. Assumes nothing.
+use borrow.Author.Needs.{needs}
+use mathlib.Core.Path.{ap, _∙_}
+use Rattle.words.specs.Check.{checkOf}
+use Rattle.host.proofs.HostLaws.{host-length, host-refused, host-painted}
+use Rattle.host.proofs.spoonwing_frame.Statement.{statement}
+use Rattle.host.proofs.spoonwing_frame.Tie as tie
+
+cast-result : tie.Need-cast-result
+cast-result c = search needs
+
+returns : tie.Need-returns
+returns c = host-length _ _ _ _ _ (c .if1 .taken)
+
+words-of-requires : tie.Need-words-of-requires
+words-of-requires c κs = search needs
+
+refusal-of-requires : tie.Need-refusal-of-requires
+refusal-of-requires c κs = search needs
+
+cast-result-2 : tie.Need-cast-result-2
+cast-result-2 c = search needs
+
+returns-2 : tie.Need-returns-2
+returns-2 c = host-refused _ _ _ _ _ (c .before .before .before .before .if1 .left) _ (c .before .refusal-of .ensures ∙ ap checkOf (c .before .before .before .words-of .ensures)) (c .if2 .taken)
+
+frame-requires : tie.Need-frame-requires
+frame-requires c κs = search needs
+
+cast-result-3 : tie.Need-cast-result-3
+cast-result-3 c = search needs
+
+same-length : tie.Need-same-length
+same-length c = search needs
+
+returns-3 : tie.Need-returns-3
+returns-3 c =
+    let w = c .before .before .before .before .before .before .before .before .before .words-of .ensures in
+    host-painted _ _ _ _ _ (c .before .before .before .before .before .before .before .before .before .before .if1 .left) _ _ _ (c .before .before .before .before .before .before .before .refusal-of .ensures ∙ ap checkOf w) (c .before .before .before .before .before .before .if2 .left)
+    (rw w at (c .before .before .before .frame .ensures .0)) (rw w at (c .before .before .before .frame .ensures .1))
+
+pub spoonwing-frame-spec : {M : Type 1} → statement M
+spoonwing-frame-spec =
+    tie.close
+    (tie.spec
+    cast-result
+    returns
+    words-of-requires
+    refusal-of-requires
+    cast-result-2
+    returns-2
+    frame-requires
+    cast-result-3
+    same-length
+    returns-3)

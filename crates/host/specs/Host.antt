@@ -1,0 +1,37 @@
+-- The entry for a C host: 01 "Sheet program and host entry". Assumes nothing.
+use Prim.Native.Nat.{ℕ, _+_, _*_}
+use mathlib.Core.List.{List}
+use lib.ListN.{length, getD}
+use lib.Dec.{eqb}
+use Rattle.lists.specs.Choice.{pick, pickList, orElse}
+use Rattle.lists.specs.Tab.{tab}
+use Rattle.answers.specs.Answers.{done, imageLength}
+use Rattle.words.specs.Check.{checkOf}
+use Rattle.paint.specs.Scene.{Scene, sceneOf}
+use Rattle.paint.specs.Frame.{refusalOf, frameOf}
+
+-- "a 208-byte register image (52 little-endian words)"
+unfoldable pub wordAt : List ℕ → ℕ → ℕ
+wordAt image i =
+    getD image (4 * i) 0 + 256 * getD image (4 * i + 1) 0
+    + (65536 * getD image (4 * i + 2) 0 + 16777216 * getD image (4 * i + 3) 0)
+
+unfoldable pub wordsOf : List ℕ → List ℕ
+wordsOf image = tab 52 (wordAt image)
+
+-- "The image counts as active once checked as at a start, without regard to the update bit."
+abbrev pub sceneIn : List ℕ → ℕ → List ℕ → List ℕ → Scene
+sceneIn image frame tables pictures = sceneOf (wordsOf image) frame tables pictures
+
+-- "Order 16, 7, 8, 9 and 10, 11, 13, 6, 14.": the check has 7 to 11, and a frame's refusals are 13, 6,
+-- 14 once its words have passed (`host-order`)
+unfoldable pub hostAnswer : List ℕ → ℕ → List ℕ → List ℕ → List ℕ → ℕ
+hostAnswer image frame tables pictures out =
+    orElse (pick (eqb (length image) 208) done imageLength)
+    (orElse (checkOf (wordsOf image)) (refusalOf (sceneIn image frame tables pictures) 0 8 out))
+
+-- "It paints a whole frame and answers the number; error bits are dropped, and every refusal leaves the
+-- output unchanged."
+unfoldable pub hostOutput : List ℕ → ℕ → List ℕ → List ℕ → List ℕ → List ℕ
+hostOutput image frame tables pictures out =
+    pickList (eqb (hostAnswer image frame tables pictures out) done) (frameOf (sceneIn image frame tables pictures)) out

@@ -1,0 +1,74 @@
+/* A C host that makes the calls it reads. A call comes as five numbers of 32 bits, little-endian (frame
+ * number and the lengths of image, tables, pictures and output), and those buffers' bytes; it is told
+ * as the answer, 1 or 0 for whether a byte beside a buffer or of an input was touched, and the output. */
+#include <stdio.h>
+#include <stdlib.h>
+#include <string.h>
+
+#include "spoonwing.h"
+
+enum { GUARD = 64, BUFFERS = 4, OUTPUT = 3 };
+
+struct buffer {
+    uint8_t *room; /* guard, bytes, guard */
+    uint8_t *kept; /* the whole room as it was before the call */
+    size_t length;
+};
+
+static uint32_t number(const uint8_t *bytes)
+{
+    return bytes[0] | bytes[1] << 8 | bytes[2] << 16 | (uint32_t)bytes[3] << 24;
+}
+
+static void put_number(uint32_t n)
+{
+    for (int i = 0; i < 4; i++)
+        putchar((int)(n >> (8 * i) & 255));
+}
+
+static struct buffer read_buffer(size_t length)
+{
+    struct buffer b = {malloc(length + 2 * GUARD), malloc(length + 2 * GUARD), length};
+    if (!b.room || !b.kept)
+        exit(2);
+    memset(b.room, 0xA5, length + 2 * GUARD);
+    if (fread(b.room + GUARD, 1, length, stdin) != length)
+        exit(2);
+    memcpy(b.kept, b.room, length + 2 * GUARD);
+    return b;
+}
+
+/* Whether a byte that no call may touch was touched: the guards, and of an input all. */
+static int touched(const struct buffer *b, int is_output)
+{
+    size_t end = GUARD + b->length;
+    if (!is_output)
+        return memcmp(b->room, b->kept, end + GUARD) != 0;
+    return memcmp(b->room, b->kept, GUARD) != 0 || memcmp(b->room + end, b->kept + end, GUARD) != 0;
+}
+
+int main(void)
+{
+    uint8_t head[20];
+    while (fread(head, 1, sizeof head, stdin) == sizeof head) {
+        struct buffer b[BUFFERS];
+        for (int i = 0; i < BUFFERS; i++)
+            b[i] = read_buffer(number(head + 4 + 4 * i));
+        uint32_t answer = spoonwing_frame(b[0].room + GUARD, b[0].length, number(head),
+                                          b[1].room + GUARD, b[1].length,
+                                          b[2].room + GUARD, b[2].length,
+                                          b[3].room + GUARD, b[3].length);
+        uint32_t spoilt = 0;
+        for (int i = 0; i < BUFFERS; i++)
+            spoilt |= (uint32_t)touched(&b[i], i == OUTPUT);
+        put_number(answer);
+        put_number(spoilt);
+        fwrite(b[OUTPUT].room + GUARD, 1, b[OUTPUT].length, stdout);
+        fflush(stdout);
+        for (int i = 0; i < BUFFERS; i++) {
+            free(b[i].room);
+            free(b[i].kept);
+        }
+    }
+    return 0;
+}
