@@ -12,13 +12,9 @@ ghost use Rattle.paint.specs.Lines.{Lent, Painting, OnRow, DrawReady, Sc
 use crate::plan::Plan;
 use crate::plan::Step;
 use draw::draw_line;
-
-// The lengths of the tables that an instruction list is drawn from.
-const LIST_LEN: usize = 768;
-
-const STRINGS_LEN: usize = 256;
-
-const FONT_LEN: usize = 768;
+use tables::FONT_LEN;
+use tables::LIST_LEN;
+use tables::STRINGS_LEN;
 
 // One run over another: at the layer's alpha, or each pixel at its own.
 fn over(out: &mut [u8], run: &[u8], global: bool, alpha: u8)

@@ -13,17 +13,14 @@ use draw::ListEnd;
 use draw::list_end;
 use mix::fade;
 use span::palette;
+use tables::COLOURS_LEN;
+use tables::LIST_LEN;
 use tables::active_at;
 use words::fields::Layer;
 use words::fields::layer_of;
 use words::fields::screen_width;
 use words::order::order_of;
 use words::pictures::pictures_of;
-
-// The lengths of an instruction list and of a colour table.
-const LIST_LEN: usize = 768;
-
-const COLOURS_LEN: usize = 64;
 
 // One layer of a painting.
 pub struct Step {

@@ -20,6 +20,15 @@ const CONTROLLER_LEN: usize = 3712;
 
 const BANK_LEN: usize = 1856;
 
+// The lengths of the four kinds, for those who lend a whole bank.
+pub const LIST_LEN: usize = 768;
+
+pub const COLOURS_LEN: usize = 64;
+
+pub const STRINGS_LEN: usize = 256;
+
+pub const FONT_LEN: usize = 768;
+
 // Where each kind begins in its bank, and how long it is.
 const KIND_AT: [usize; 4] = [0, 768, 832, 1088];
 
