@@ -15,7 +15,7 @@ use Rattle.words.specs.Fields.{updateOf}
 use Rattle.words.specs.Check.{checkOf}
 use Rattle.tables.specs.Geometry.{tablesLen}
 use Rattle.tables.specs.Selection.{endOf, namedBy}
-use Rattle.lists.proofs.Choice.{orElse-right}
+use Rattle.lists.proofs.Choice.{lets-through, orElse-right}
 use Rattle.display.specs.declared.Display.{Display}
 use Rattle.display.specs.declared.Told.{Told}
 use Rattle.display.specs.State.{fresh, pickTold, withErrors, stepped, writeOf, selectOf, toggleOf, startOf}
@@ -92,11 +92,7 @@ module _ (d : Display) (s : Sound d) where
       let p = orElse-right (pick (eqb (length tables) tablesLen) done tablesLength) _ e in
       let q = orElse-right (pick (d .selected) done notSelected) _ p in
       let r = orElse-right (pick (namedBy (d .active) (d .selection)) bankActive done) _ q in
-      ltb-true _ _ (passed (ltb (d .place) (endOf (d .selection))) r)
-    where
-      passed : (t : Bool) → pick t done bankFull ≡ done → t ≡ true
-      passed true e = refl
-      passed false e = absurd (let z : ⊥ = omega arith in z)
+      ltb-true _ _ (lets-through (ltb (d .place) (endOf (d .selection))) 4 r)
 
   pub put-sound : (tables : List ℕ) → Sound (putOf d tables .state)
   unfolding putOf putState

@@ -1,10 +1,10 @@
--- Laws of exclusive or, and of a single bit. Assumes nothing.
+-- Laws of exclusive or, of bits set in any order, and of a single bit. Assumes nothing.
 use mathlib.Core.Path.{_≡_, refl, sym, ap, ap₂, _∙_}
-use Prim.Native.Nat.{ℕ, zero, suc, _+_, _*_, _/_, _%_, _^_, _<_}
+use Prim.Native.Nat.{ℕ, zero, suc, _+_, _*_, _/_, _%_, _^_, _<_, max}
 use native.Mathlib.Nat.{one-mul}
 use native.Mathlib.Omega.{arith}
 use lib.Arith.{bin-ind}
-use lib.Bits.{bitXor, differ, xor-step, xor-zero-l, xor-zero-r, xor-self, xor-shr}
+use lib.Bits.{bitXor, bitOr, or-step, or-zero-l, or-comm, differ, xor-step, xor-zero-l, xor-zero-r, xor-self, xor-shr}
 use lib.Pow.{shl-exact}
 
 -- ---- exclusive or
@@ -52,6 +52,33 @@ xor-assoc =
 -- the same bits toggled twice
 pub xor-twice : (a b : ℕ) → bitXor (bitXor a b) b ≡ a
 xor-twice a b = xor-assoc a b b ∙ ap (bitXor a) (xor-self b) ∙ xor-zero-r a
+
+-- ---- bits are set in any order
+
+or-half : (a b : ℕ) → bitOr a b / 2 ≡ bitOr (a / 2) (b / 2)
+or-half a b = go (bitOr a b) (bitOr (a / 2) (b / 2)) (or-step a b)
+  where
+    go : (x y : ℕ) → x ≡ y * 2 + max (a % 2) (b % 2) → x / 2 ≡ y
+    go x y e = omega arith
+
+or-odd : (a b : ℕ) → bitOr a b % 2 ≡ max (a % 2) (b % 2)
+or-odd a b = go (bitOr a b) (bitOr (a / 2) (b / 2)) (or-step a b)
+  where
+    go : (x y : ℕ) → x ≡ y * 2 + max (a % 2) (b % 2) → x % 2 ≡ max (a % 2) (b % 2)
+    go x y e = omega arith
+
+pub or-swap : (e a b : ℕ) → bitOr (bitOr e a) b ≡ bitOr (bitOr e b) a
+or-swap =
+    bin-ind (λ (e : ℕ). (a b : ℕ) → bitOr (bitOr e a) b ≡ bitOr (bitOr e b) a)
+    (λ a b. ap (λ (z : ℕ). bitOr z b) (or-zero-l a) ∙ or-comm a b ∙ sym (ap (λ (z : ℕ). bitOr z a) (or-zero-l b)))
+    (λ e ih a b. or-step (bitOr e a) b
+    ∙ ap₂ (λ (x y : ℕ). x * 2 + y)
+    (ap (λ (z : ℕ). bitOr z (b / 2)) (or-half e a) ∙ ih (a / 2) (b / 2) ∙ sym (ap (λ (z : ℕ). bitOr z (a / 2)) (or-half e b)))
+    (ap (λ (z : ℕ). max z (b % 2)) (or-odd e a) ∙ swap (e % 2) (a % 2) (b % 2) ∙ sym (ap (λ (z : ℕ). max z (a % 2)) (or-odd e b)))
+    ∙ sym (or-step (bitOr e b) a))
+  where
+    swap : (x y z : ℕ) → max (max x y) z ≡ max (max x z) y
+    swap x y z = omega arith
 
 -- ---- one bit, set by a shift
 

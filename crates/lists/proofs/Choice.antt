@@ -36,6 +36,28 @@ pub pick-keeps : (P : ℕ → Type 0) (t : Bool) (x y : ℕ) → (t ≡ true →
 pick-keeps P true x y f g = f refl
 pick-keeps P false x y f g = g refl
 
+-- a choice made twice by one test: of the second only what the first left is seen
+pub pick-twice : (t : Bool) (F : ℕ → ℕ) (x y z : ℕ) → F x ≡ y → pick t (F (pick t x z)) (pick t x z) ≡ pick t y z
+pick-twice true F x y z e = e
+pick-twice false F x y z e = refl
+
+pub pick-other : (t : Bool) (F : ℕ → ℕ) (x y z : ℕ) → F x ≡ y → pick t (pick t z x) (F (pick t z x)) ≡ pick t z y
+pick-other true F x y z e = refl
+pick-other false F x y z e = e
+
+pub pickList-twice : (t : Bool) (F : List ℕ → List ℕ) (x y z : List ℕ) → F x ≡ y → pickList t (F (pickList t x z)) (pickList t x z) ≡ pickList t y z
+pickList-twice true F x y z e = e
+pickList-twice false F x y z e = refl
+
+-- a test that refuses with a number above 0, and a test that lets through
+pub refuses-not : (t : Bool) (r s : ℕ) → pick t (suc r) s ≡ 0 → (t ≡ false) × (s ≡ 0)
+refuses-not true r s e = absurd (let z : suc r ≡ 0 = e in omega arith)
+refuses-not false r s e = (refl, e)
+
+pub lets-through : (t : Bool) (r : ℕ) → pick t 0 (suc r) ≡ 0 → t ≡ true
+lets-through true r e = refl
+lets-through false r e = absurd (let z : suc r ≡ 0 = e in omega arith)
+
 pub both-left : (a b : Bool) → both a b ≡ true → a ≡ true
 both-left true b e = refl
 both-left false b e = e

@@ -11,3 +11,4 @@ pub mod Digits
 pub mod Run
 pub mod Steps
 pub mod Over
+pub mod Cut

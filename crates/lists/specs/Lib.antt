@@ -5,3 +5,4 @@ pub mod Runs
 pub mod Zero
 pub mod Steps
 pub mod Over
+pub mod Cut

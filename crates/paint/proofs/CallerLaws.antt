@@ -102,7 +102,7 @@ paint-fill w a b out tables pictures e =
     orElse-none (sizeRefusal w) (outputRefusal w out) (orElse-left (sizeRefusal w) _ p) (orElse-left (outputRefusal w out) _ q)
 
 module _ (s : Scene) (out : List ℕ) (e : refusalOf s 0 8 out ≡ 0) where
-  fill-is : fillAfter (s .words) out ≡ fillOf (s .words)
+  pub fill-is : fillAfter (s .words) out ≡ fillOf (s .words)
   unfolding fillAfter
   fill-is = rw (eq-eqb _ 0 (paint-fill _ _ _ _ _ _ e))
 

@@ -11,7 +11,7 @@ use lib.Seq.{take-all}
 use Rattle.lists.specs.Choice.{pick, both}
 use Rattle.lists.specs.Tab.{tab}
 use Rattle.lists.specs.Steps.{through}
-use Rattle.lists.proofs.Choice.{both-left, both-right, either-left, orElse-left, orElse-right}
+use Rattle.lists.proofs.Choice.{both-left, both-right, either-left, refuses-not, lets-through, orElse-left, orElse-right}
 use Rattle.lists.proofs.Tab.{tab-cong}
 use Rattle.words.specs.Fields.{shownOf, widthOf, heightOf, groundOf}
 use Rattle.words.specs.Pictures.{picturesLen}
@@ -29,14 +29,6 @@ use Rattle.paint.proofs.PlanLaws.{marks-is}
 
 -- ---- what passes
 
-passed : (t : Bool) (r : ℕ) → pick t 0 (suc r) ≡ 0 → t ≡ true
-passed true r e = refl
-passed false r e = absurd (let z : ⊥ = omega arith in z)
-
-kept : (t : Bool) (r : ℕ) → pick t (suc r) 0 ≡ 0 → t ≡ false
-kept true r e = absurd (let z : ⊥ = omega arith in z)
-kept false r e = refl
-
 -- the words, the band and the lengths that paint takes
 pub record Fits (w : List ℕ) (a b out tables pictures : ℕ) : Type 0 where
   pub low : a ≤ b
@@ -48,12 +40,12 @@ pub record Fits (w : List ℕ) (a b out tables pictures : ℕ) : Type 0 where
 
 pub size-wide : (w : List ℕ) → sizeRefusal w ≡ 0 → 0 < widthOf w
 size-wide w e =
-    let h : widthOf w ≡ 0 → ⊥ = eqb-false (widthOf w) 0 (either-left (eqb (widthOf w) 0) (eqb (heightOf w) 0) (kept _ 11 e)) in omega arith
+    let h : widthOf w ≡ 0 → ⊥ = eqb-false (widthOf w) 0 (either-left (eqb (widthOf w) 0) (eqb (heightOf w) 0) (refuses-not _ 11 0 e .0)) in omega arith
 
 pub paint-fits : (w : List ℕ) (a b out tables pictures : ℕ) → paintRefusal w a b out tables pictures ≡ 0 → Fits w a b out tables pictures
 unfolding paintRefusal
 paint-fits w a b out tables pictures e =
-    let band = passed (both (leb a b) (leb b 8)) 14 (orElse-left (bandRefusal a b) _ e) in
+    let band = lets-through (both (leb a b) (leb b 8)) 14 (orElse-left (bandRefusal a b) _ e) in
     let p = orElse-right (bandRefusal a b) _ e in
     let q = orElse-right (sizeRefusal w) _ p in
     let r = orElse-right (outputRefusal w out) _ q in
@@ -61,9 +53,9 @@ paint-fits w a b out tables pictures e =
       low = leb-true a b (both-left (leb a b) (leb b 8) band);
       high = leb-true b 8 (both-right (leb a b) (leb b 8) band);
       wide = size-wide w (orElse-left (sizeRefusal w) _ p);
-      long = eqb-true _ _ (passed (eqb out (frameLen w)) 12 (orElse-left (outputRefusal w out) _ q));
-      lent = eqb-true _ _ (passed (eqb tables tablesLen) 5 (orElse-left (tablesRefusal tables) _ r));
-      shown = eqb-true _ _ (passed (eqb pictures (picturesLen w)) 13 (orElse-right (tablesRefusal tables) _ r));
+      long = eqb-true _ _ (lets-through (eqb out (frameLen w)) 12 (orElse-left (outputRefusal w out) _ q));
+      lent = eqb-true _ _ (lets-through (eqb tables tablesLen) 5 (orElse-left (tablesRefusal tables) _ r));
+      shown = eqb-true _ _ (lets-through (eqb pictures (picturesLen w)) 13 (orElse-right (tablesRefusal tables) _ r));
     }
 
 pub fits-lent : (s : Scene) (a b out : ℕ) → Fits (s .words) a b out (length (s .tables)) (length (s .pictures)) → Lent s
@@ -71,7 +63,7 @@ fits-lent s a b out f = record { tables = f .lent; pictures = f .shown }
 
 pub fill-long : (w : List ℕ) (out : ℕ) → fillRefusal w out ≡ 0 → out ≡ frameLen w
 unfolding fillRefusal
-fill-long w out e = eqb-true _ _ (passed (eqb out (frameLen w)) 12 (orElse-right (sizeRefusal w) _ e))
+fill-long w out e = eqb-true _ _ (lets-through (eqb out (frameLen w)) 12 (orElse-right (sizeRefusal w) _ e))
 
 -- ---- a filled output
 

@@ -30,7 +30,7 @@ use Rattle.paint.specs.Plan.{bandLayers, leftOf, wideOf}
 use Rattle.paint.specs.Lines.{Painting, OnRow, Drawn, lineByte, lineTo, bandLine}
 use Rattle.paint.proofs.BandLaws.{band-through}
 
-row-room : (v h w : ℕ) → v < h → v * w + w ≤ h * w
+pub row-room : (v h w : ℕ) → v < h → v * w + w ≤ h * w
 row-room v h w lt =
     omega (arith, mul-le-mul {n₁ = v + 1} {m₁ = w} {n₂ = h} {m₂ = w} (omega arith) (omega arith), add-mul v 1 w)
 
@@ -67,7 +67,7 @@ over-outside s x y c n p out = go (covers (layerOf (s .words) n) x y) _ (λ e. o
     go true z f = absurd (f refl)
     go false z f = refl
 
-over-inside : (s : Scene) (x y c n p : ℕ) → Covered (layerOf (s .words) n) x y
+pub over-inside : (s : Scene) (x y c n p : ℕ) → Covered (layerOf (s .words) n) x y
     → overAt s x y c n p ≡ blendOf (alphaAt s n (x - layerOf (s .words) n .x) (y - layerOf (s .words) n .y)) (ownAt s n (x - layerOf (s .words) n .x) (y - layerOf (s .words) n .y) c) p
 unfolding overAt
 over-inside s x y c n p k = rw (covered-covers (layerOf (s .words) n) x y k)

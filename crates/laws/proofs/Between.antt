@@ -1,0 +1,106 @@
+-- "each channel lies between the least and greatest of the background's and the covering layers'
+-- there". Assumes nothing.
+use mathlib.Core.Path.{_≡_}
+use mathlib.Core.Bool.{true}
+use mathlib.Core.Logic.{⊎-elim}
+use mathlib.Core.List.{List}
+use Prim.Native.Nat.{ℕ, _+_, _*_, _≤_, _<_}
+use native.Mathlib.Omega.{arith}
+use lib.ListN.{getD, take, drop, length-take, List·getD-eq-default}
+use Rattle.lists.proofs.Choice.{split, pick-keeps}
+use Rattle.lists.proofs.Run.{run-keeps, run-after}
+use Rattle.lists.proofs.Tab.{getD-part}
+use Rattle.mix.proofs.BlendLaws.{blendOf-le, blendOf-ge}
+use Rattle.mix.proofs.FadeLaws.{fadeOf-le}
+use Rattle.words.specs.Fields.{groundOf, layerOf}
+use Rattle.tables.specs.Geometry.{colourLen, kindLen}
+use Rattle.tables.specs.Selection.{activeAt}
+use Rattle.paint.specs.Scene.{Scene}
+use Rattle.paint.specs.Pixel.{bankOf, indexOf, graphicsAt, pictureAt, ownAt, alphaAt, covers, overAt}
+use Rattle.paint.specs.Band.{pixelAt}
+use Rattle.laws.specs.Painting.{Ready, OnScreen, channelAt, ownOver, OfBytes, shows, leastStep, greatestStep, leastAt, greatestAt}
+use Rattle.laws.proofs.LayerLaws.{value-le, target-le}
+use Rattle.laws.proofs.Bands.{bandBy-keeps}
+use Rattle.laws.proofs.Pixels.{channelAt-is}
+
+-- a part of a list of bytes is one
+part-le : (l : List ℕ) (o n i : ℕ) → ((k : ℕ) → getD l k 0 ≤ 255) → getD (take n (drop o l)) i 0 ≤ 255
+part-le l o n i b = ⊎-elim
+    (λ (lt : i < n). rw (getD-part l o n i lt) (b (o + i)))
+    (λ (ge : n ≤ i). rw (List·getD-eq-default (take n (drop o l)) 0 {n = i} (omega (arith, length-take n (drop o l)))) (omega arith))
+    (split i n)
+
+module _ (s : Scene) (bytes : OfBytes s) where
+  -- ---- alphas and channels are bytes
+
+  graphics-le : (n u v c : ℕ) → graphicsAt (s .words) (s .tables) n u v c ≤ 255
+  unfolding graphicsAt bankOf
+  graphics-le n u v c =
+      part-le (s .tables) (activeAt (s .words) 1 n) (kindLen 1) (colourLen * indexOf (s .words) (s .tables) n v u + c) (bytes .tables)
+
+  own-le : (n u v c : ℕ) → ownAt s n u v c ≤ 255
+  unfolding ownAt pictureAt
+  own-le n u v c =
+      pick-keeps (λ (z : ℕ). z ≤ 255) (layerOf (s .words) n .graphics) _ _ (λ t. graphics-le n u v c) (λ f. bytes .pictures _)
+
+  alpha-le : (n u v : ℕ) → alphaAt s n u v ≤ 255
+  unfolding alphaAt
+  alpha-le n u v =
+      pick-keeps (λ (z : ℕ). z ≤ 255) (layerOf (s .words) n .global) _ _
+      (λ t. fadeOf-le _ _ _ _ _ 255 (value-le (s .words) n) (target-le (s .words) n)) (λ f. own-le n u v 3)
+
+  -- ---- what bounds the background and every covering layer bounds the pixel
+
+  abbrev Within : ℕ → ℕ → ℕ → Type 0
+  Within lo hi z = (lo ≤ z) × (z ≤ hi)
+
+  pixel-within : (x y c lo hi p : ℕ) → Within lo hi p → ((n : ℕ) → n < 8 → shows s n x y ≡ true → Within lo hi (ownOver s n x y c))
+      → Within lo hi (pixelAt s x y c 0 8 p)
+  unfolding overAt
+  pixel-within x y c lo hi p b h =
+      bandBy-keeps (Within lo hi) (s .words) (overAt s x y c) 0 8 p
+      (λ n q l bq. pick-keeps (Within lo hi) (covers (layerOf (s .words) n) x y) _ q
+      (λ t. let o = h n (l .number) (rw (t, l .on)) in
+      (blendOf-ge _ _ q lo (alpha-le n _ _) (o .0) (bq .0), blendOf-le _ _ q hi (alpha-le n _ _) (o .1) (bq .1)))
+      (λ f. bq)) b
+
+  -- ---- the least and the greatest are such bounds
+
+  least-step : (x y c n p : ℕ) → leastStep s x y c n p ≤ p
+  unfolding leastStep
+  least-step x y c n p = pick-keeps (λ (z : ℕ). z ≤ p) (shows s n x y) _ p (λ t. omega arith) (λ f. omega arith)
+
+  least-own : (x y c n p : ℕ) → shows s n x y ≡ true → leastStep s x y c n p ≤ ownOver s n x y c
+  unfolding leastStep
+  least-own x y c n p t = rw t (omega arith)
+
+  greatest-step : (x y c n p : ℕ) → p ≤ greatestStep s x y c n p
+  unfolding greatestStep
+  greatest-step x y c n p = pick-keeps (λ (z : ℕ). p ≤ z) (shows s n x y) _ p (λ t. omega arith) (λ f. omega arith)
+
+  greatest-own : (x y c n p : ℕ) → shows s n x y ≡ true → ownOver s n x y c ≤ greatestStep s x y c n p
+  unfolding greatestStep
+  greatest-own x y c n p t = rw t (omega arith)
+
+  module _ (x y c : ℕ) where
+    ground-within : Within (leastAt s x y c) (greatestAt s x y c) (groundOf (s .words) c)
+    unfolding leastAt greatestAt
+    ground-within = (
+      run-keeps (λ (z : ℕ). z ≤ groundOf (s .words) c) 0 8 _ _ (λ n q v b. omega (arith, least-step x y c n q)) (omega arith),
+      run-keeps (λ (z : ℕ). groundOf (s .words) c ≤ z) 0 8 _ _ (λ n q v b. omega (arith, greatest-step x y c n q)) (omega arith),
+    )
+
+    layer-within : (n : ℕ) → n < 8 → shows s n x y ≡ true → Within (leastAt s x y c) (greatestAt s x y c) (ownOver s n x y c)
+    unfolding leastAt greatestAt
+    layer-within n hn t = (
+      run-after (λ (z : ℕ). z ≤ ownOver s n x y c) 0 8 n _ _ (omega arith)
+          (λ q. least-own x y c n q t) (λ m q v b. omega (arith, least-step x y c m q)),
+      run-after (λ (z : ℕ). ownOver s n x y c ≤ z) 0 8 n _ _ (omega arith)
+          (λ q. greatest-own x y c n q t) (λ m q v b. omega (arith, greatest-step x y c m q)),
+    )
+
+    -- the law
+    pub between : Ready s → OnScreen (s .words) x y c → (leastAt s x y c ≤ channelAt s x y c) × (channelAt s x y c ≤ greatestAt s x y c)
+    between ready on =
+        rw (channelAt-is s (ready .shown) x y c on)
+        (pixel-within x y c (leastAt s x y c) (greatestAt s x y c) (groundOf (s .words) c) ground-within layer-within)

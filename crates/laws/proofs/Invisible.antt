@@ -1,0 +1,162 @@
+-- "a layer whose alpha is 0 all over may be switched off, its picture withdrawn with it". Assumes
+-- nothing.
+use mathlib.Core.Path.{_≡_, refl, sym, ap, _∙_}
+use mathlib.Core.Bool.{true, true≢false}
+use mathlib.Core.Logic.{⊎-elim}
+use mathlib.Core.List.{List}
+use Prim.Native.Nat.{ℕ, _+_, _*_, _≤_, _<_}
+use native.Mathlib.Omega.{arith}
+use lib.ListN.{length, getD, length-set}
+use Rattle.lists.specs.Choice.{pick}
+use Rattle.lists.specs.Cut.{cut}
+use Rattle.lists.proofs.Choice.{same-or, split, pick-cong, pick-keeps, both-left}
+use Rattle.lists.proofs.Cut.{length-cut, cut-low, cut-high}
+use Rattle.lists.proofs.Sum.{sum-cong, sum-room, sum-without}
+use Rattle.words.specs.declared.fields.Layer.{Layer}
+use Rattle.words.specs.Fields.{layerOf}
+use Rattle.words.specs.Check.{reservedBits}
+use Rattle.words.specs.Order.{here}
+use Rattle.words.specs.Pictures.{pictureLen, pictureLenAt, pictureStart, picturesLen}
+use Rattle.words.proofs.CheckLaws.{Plain, Accepted, accepted-check}
+use Rattle.paint.specs.Scene.{Scene}
+use Rattle.paint.specs.Pixel.{bankOf, indexOf, graphicsAt, pictureAt, ownAt, overAt}
+use Rattle.paint.specs.Band.{layerStep}
+use Rattle.paint.specs.Frame.{frameOf}
+use Rattle.laws.specs.Painting.{Ready, Clear, withOff, without}
+use Rattle.laws.proofs.LayerLaws.{atDepth, withOff-same, withOff-other, withOff-word, off-plain, set-plain, accepted-alike}
+use Rattle.laws.proofs.Bands.{bandBy-cong}
+use Rattle.laws.proofs.Pixels.{ready-accepted, picture-room, over-clear, over-same, frame-same}
+
+module _ (s : Scene) (n : ℕ) (ready : Ready s) (hn : n < 8) where
+  abbrev w : List ℕ
+  w = s .words
+
+  abbrev w′ : List ℕ
+  w′ = withOff (s .words) n
+
+  acc : Accepted w
+  acc = ready-accepted s ready
+
+  -- ---- the words without the layer are accepted
+
+  off-n : layerOf w′ n .on ≡ true → ⊥
+  off-n e = true≢false (sym e ∙ ap (λ (l : Layer). l .on) (withOff-same w (acc .long) n hn))
+
+  other-m : (m : ℕ) → (m ≡ n → ⊥) → layerOf w′ m ≡ layerOf w m
+  other-m m ne = withOff-other w (acc .long) n m ne
+
+  -- a layer that is on afterwards is another, and was on
+  was : (m : ℕ) → layerOf w′ m .on ≡ true → layerOf w′ m ≡ layerOf w m
+  was m o = ⊎-elim (λ (e : m ≡ n). absurd (off-n (rw e at o))) (λ (ne : m ≡ n → ⊥). other-m m ne) (same-or m n)
+
+  plain : (k : ℕ) → k < 52 → Plain w′ k
+  unfolding withOff
+  plain =
+      set-plain w (4 + 6 * n) _ (acc .long) (acc .plain)
+      (off-plain (getD w (4 + 6 * n) 0) (getD reservedBits (4 + 6 * n) 0) (acc .plain (4 + 6 * n) (omega arith)))
+
+  long : length w′ ≡ 52
+  unfolding withOff
+  long = length-set w (4 + 6 * n) _ ∙ acc .long
+
+  acc′ : Accepted w′
+  acc′ =
+      accepted-alike w w′ acc long plain (withOff-word w (acc .long) n 1 (omega arith)) (λ m o. ap (λ (l : Layer). atDepth l 0) (was m o))
+      (λ m k hm hk om ok om′ ok′ d. acc .apart m k hm hk om ok
+      (sym (ap (λ (l : Layer). l .depth) (was m om′)) ∙ d ∙ ap (λ (l : Layer). l .depth) (was k ok′)))
+
+  -- ---- where the other pictures begin now
+
+  len-n : pictureLenAt w′ n ≡ 0
+  unfolding pictureLenAt pictureLen
+  len-n = ap pictureLen (withOff-same w (acc .long) n hn)
+
+  len-m : (m : ℕ) → (m ≡ n → ⊥) → pictureLenAt w′ m ≡ pictureLenAt w m
+  unfolding pictureLenAt
+  len-m m ne = ap pictureLen (other-m m ne)
+
+  start-below : (m : ℕ) → m < n → pictureStart w′ m ≡ pictureStart w m
+  unfolding pictureStart
+  start-below m h = sum-cong m _ _ (λ k lt. len-m k (λ e. omega arith))
+
+  start-above : (m : ℕ) → n < m → pictureStart w′ m + pictureLenAt w n ≡ pictureStart w m
+  unfolding pictureStart
+  start-above m h = sum-without m n _ _ h len-n (λ k lt ne. len-m k ne)
+
+  total : picturesLen w′ + pictureLenAt w n ≡ picturesLen w
+  unfolding picturesLen
+  total = sum-without 8 n _ _ hn len-n (λ k lt ne. len-m k ne)
+
+  room : (m k : ℕ) → m < k → pictureStart w m + pictureLenAt w m ≤ pictureStart w k
+  unfolding pictureStart
+  room m k h = sum-room k m (pictureLenAt w) h
+
+  fits : pictureStart w n + pictureLenAt w n ≤ length (s .pictures)
+  unfolding pictureStart picturesLen
+  fits = rw (ready .pictures) (sum-room 8 n (pictureLenAt w) hn)
+
+  picture-same : (m k : ℕ) → (m ≡ n → ⊥) → k < pictureLenAt w m → getD (without s n .pictures) (pictureStart w′ m + k) 0 ≡ getD (s .pictures) (pictureStart w m + k) 0
+  unfolding without
+  picture-same m k ne h = ⊎-elim
+      (λ (lt : m < n). rw (start-below m lt) (cut-low (s .pictures) _ _ fits (pictureStart w m + k) (omega (arith, room m n lt))))
+      (λ (ge : n ≤ m).
+      let e : pictureStart w′ m + pictureLenAt w n ≡ pictureStart w m = start-above m (omega arith) in
+      let r : pictureStart w n + pictureLenAt w n ≤ pictureStart w m = room n m (omega arith) in
+      let t : pictureStart w′ m + k + pictureLenAt w n ≡ pictureStart w m + k = omega arith in
+      cut-high (s .pictures) _ _ fits (pictureStart w′ m + k) (omega arith) ∙ ap (λ (z : ℕ). getD (s .pictures) z 0) t)
+      (split m n)
+
+  -- ---- the other layers show what they showed
+
+  bankOf-same : (kind m : ℕ) → bankOf w′ (s .tables) kind m ≡ bankOf w (s .tables) kind m
+  unfolding bankOf
+  bankOf-same kind m = rw (withOff-word w (acc .long) n 3 (omega arith))
+
+  own-same : (m u v c : ℕ) → (m ≡ n → ⊥) → layerOf w m .on ≡ true → u < layerOf w m .width → v < layerOf w m .height → c < 4
+      → ownAt (without s n) m u v c ≡ ownAt s m u v c
+  unfolding ownAt without graphicsAt indexOf pictureAt
+  own-same m u v c ne o hu hv hc =
+      rw (other-m m ne, bankOf-same 0 m, bankOf-same 1 m, bankOf-same 2 m, bankOf-same 3 m)
+      (pick-cong (layerOf w m .graphics) (λ t. refl)
+      (λ f. picture-same m (4 * (v * layerOf w m .width + u) + c) ne (picture-room w m u v c o f hu hv hc)))
+
+  kept : (x y c d m p : ℕ) → c < 4 → (m ≡ n → ⊥) → layerStep w′ (overAt (without s n) x y c) d m p ≡ layerStep w (overAt s x y c) d m p
+  unfolding layerStep without
+  kept x y c d m p hc ne =
+      rw (other-m m ne)
+      (pick-cong (here (layerOf w m) d)
+      (λ t. over-same s (without s n) m (ap (λ (l : Layer). atDepth l 0) (other-m m ne)) refl
+      (λ u v k hu hv hk. own-same m u v k ne (both-left _ _ t) hu hv hk) x y c p hc) (λ f. refl))
+
+  -- ---- and layer n did nothing
+
+  gone : (step : ℕ → ℕ → ℕ) (d p : ℕ) → layerStep w′ step d n p ≡ p
+  unfolding layerStep
+  gone step d p = rw (withOff-same w (acc .long) n hn)
+
+  module _ (clear : Clear s n) where
+    nothing : (x y c d p : ℕ) → layerStep w (overAt s x y c) d n p ≡ p
+    unfolding layerStep
+    nothing x y c d p = pick-keeps (λ (z : ℕ). z ≡ p) (here (layerOf w n) d) _ p (λ t. over-clear s x y c n p clear) (λ f. refl)
+
+    step-same : (x y c d m p : ℕ) → c < 4 → layerStep w′ (overAt (without s n) x y c) d m p ≡ layerStep w (overAt s x y c) d m p
+    step-same x y c d m p hc = ⊎-elim
+        (λ (e : m ≡ n). rw e (gone _ d p ∙ sym (nothing x y c d p)))
+        (λ (ne : m ≡ n → ⊥). kept x y c d m p hc ne)
+        (same-or m n)
+
+    -- the settings are still accepted, the pictures have the right length, and no byte of the frame
+    -- changes
+    pub invisible : Ready (without s n) × (frameOf (without s n) ≡ frameOf s)
+    unfolding without
+    invisible = (
+      record {
+        long = acc′ .long;
+        accepted = accepted-check w′ acc′;
+        shown = rw (withOff-word w (acc .long) n 0 (omega arith)) (ready .shown);
+        tables = ready .tables;
+        pictures = omega (arith, length-cut (s .pictures) (pictureStart w n) (pictureLenAt w n) fits, total, ready .pictures);
+      },
+      frame-same s (without s n) (λ k h. withOff-word w (acc .long) n k (omega arith))
+          (λ x y c p hc. bandBy-cong w′ w (overAt (without s n) x y c) (overAt s x y c) 0 8 p (λ d m r hm. step-same x y c d m r hc)),
+    )

@@ -1,0 +1,9 @@
+-- The laws that a buyer reads, and what they rest on. Assumes nothing.
+pub mod LayerLaws
+pub mod Bands
+pub mod Pixels
+pub mod Split
+pub mod Exchange
+pub mod Opaque
+pub mod Invisible
+pub mod Between

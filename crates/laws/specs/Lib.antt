@@ -1,0 +1,2 @@
+-- What the laws speak of. Assumes nothing.
+pub mod Painting
