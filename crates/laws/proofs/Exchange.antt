@@ -13,6 +13,7 @@ use Rattle.lists.specs.Choice.{pick, both}
 use Rattle.lists.proofs.Choice.{same-or, both-false}
 use Rattle.lists.proofs.Run.{run-cong, run-swap}
 use Rattle.lists.proofs.Bits.{or-swap}
+use Rattle.answers.specs.Answers.{done}
 use Rattle.words.specs.declared.fields.Layer.{Layer}
 use Rattle.words.specs.Fields.{layerOf}
 use Rattle.words.specs.Order.{here}
@@ -20,12 +21,16 @@ use Rattle.words.proofs.CheckLaws.{Plain, Accepted}
 use Rattle.paint.specs.Scene.{Scene}
 use Rattle.paint.specs.Pixel.{covers, overAt}
 use Rattle.paint.specs.Band.{layerStep, depthStep, bandBy, missing, markAt, errorsOf}
-use Rattle.paint.specs.Frame.{frameOf}
+use Rattle.paint.specs.Frame.{frameLen, refusalOf, frameOf}
+use Rattle.paint.specs.Frame as painting
 use Rattle.paint.proofs.LineLaws.{over-outside}
+use Rattle.display.specs.declared.Display.{Display}
+use Rattle.display.specs.State.{told, withActive}
+use Rattle.display.specs.Paint.{sceneWith, frameTold, frameBytes}
 use Rattle.laws.specs.Painting.{Ready, IsLayer, Neighbours, withWords, withDepth, exchanged}
 use Rattle.laws.proofs.LayerLaws.{atDepth, Alike, depth-lt, withDepth-same, withDepth-other, withDepth-word, depth-plain, depth-free, set-plain, accepted-alike}
 use Rattle.laws.proofs.Bands.{depthStep-only, depthStep-none}
-use Rattle.laws.proofs.Pixels.{ready-accepted, ready-alike, covers-not, over-alike, mark-alike, frame-same}
+use Rattle.laws.proofs.Pixels.{ready-accepted, ready-done, ready-alike, covers-not, over-alike, mark-alike, frame-same}
 
 -- layer n is i, or j, or neither
 data Who (i j n : ℕ) : Type 0 where
@@ -237,3 +242,18 @@ module _ (s : Scene) (i j : ℕ) (ready : Ready s) (q : Neighbours (s .words) i 
         (λ x y c p hc. exchange-band w i j acc q (overAt s x y c) (overAt s′ x y c) (λ n r. over-alike s w′ (alike w i j acc q) banks x y c n r hc) (commute x y c) p),
     λ e. rw (first-words w i j acc q 0 (omega arith), exchange-band w i j acc q (markAt s) (markAt s′) (mark-alike s w′ (alike w i j acc q) banks) mark-commute e),
   )
+
+-- as the display tells it: the same bytes, the same answer, and a state that differs in the exchanged
+-- fields alone
+pub exchange-frame : (d : Display) (tables pictures out : List ℕ) (i j : ℕ) → Ready (sceneWith d tables pictures) → Neighbours (d .active) i j → length out ≡ frameLen (d .active)
+    → let e = withActive d (exchanged (d .active) i j) in
+    (frameBytes e tables pictures out ≡ frameBytes d tables pictures out)
+    × (frameTold e tables pictures out ≡ told (withActive (frameTold d tables pictures out .state) (exchanged (d .active) i j)) (frameTold d tables pictures out .answer))
+unfolding frameBytes frameTold painting.frameAfter painting.frameTold painting.paintTold
+exchange-frame d tables pictures out i j ready q long =
+    let s : Scene = sceneWith d tables pictures in
+    let x = exchange s i j ready q in
+    let same : getD (exchanged (d .active) i j) 1 0 ≡ getD (d .active) 1 0 = first-words (d .active) i j (ready-accepted s ready) q 1 (omega arith) in
+    let here : refusalOf s 0 8 out ≡ done = ready-done s 0 8 out ready (omega arith) (omega arith) long in
+    let there : refusalOf (withWords s (exchanged (d .active) i j)) 0 8 out ≡ done = ready-done _ 0 8 out (x .0) (omega arith) (omega arith) (rw same long) in
+    (rw (here, there) (x .1), rw (here, there, x .2 (d .errors)))

@@ -7,3 +7,4 @@ pub mod Exchange
 pub mod Opaque
 pub mod Invisible
 pub mod Between
+pub mod Worked

@@ -66,8 +66,7 @@ split-band d tables pictures out a b c ready long ab bc c8 =
     let b8 : b ≤ 8 = omega arith in
     let ac : a ≤ c = omega arith in
     let long′ = length-paintBytes d tables pictures ready a b out ab b8 long in
-    rw (paint-told d tables pictures ready a b out ab b8 long)
-    (
+    rw (paint-told d tables pictures ready a b out ab b8 long) (
       paint-bytes low tables pictures ready b c (paintBytes d a b tables pictures out) bc c8 long′
           ∙ ap (bandOf s b c) (paint-bytes d tables pictures ready a b out ab b8 long)
           ∙ bandOf-split s a b c ab bc out ∙ sym (paint-bytes d tables pictures ready a c out ac c8 long),
