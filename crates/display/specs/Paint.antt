@@ -18,7 +18,7 @@ sceneWith d tables pictures = sceneOf (d .active) (d .frame) tables pictures
 abbrev pub toldBy : Display → Painted → Told
 toldBy d p = told (withErrors d (p .errors)) (p .answer)
 
--- ---- fill
+-- ---- fill: "Fill writes the background to every pixel."
 
 unfoldable pub fillTold : Display → List ℕ → Told
 fillTold d out = told d (painting.fillRefusal (d .active) (length out))
@@ -26,7 +26,7 @@ fillTold d out = told d (painting.fillRefusal (d .active) (length out))
 unfoldable pub fillBytes : Display → List ℕ → List ℕ
 fillBytes d out = painting.fillAfter (d .active) out
 
--- ---- a band
+-- ---- a band: "blends the enabled layers of those depths, in rising depth, over what the buffer holds"
 
 unfoldable pub paintTold : Display → ℕ → ℕ → List ℕ → List ℕ → List ℕ → Told
 paintTold d a b tables pictures out = toldBy d (painting.paintTold (sceneWith d tables pictures) a b out (d .errors))
@@ -34,7 +34,7 @@ paintTold d a b tables pictures out = toldBy d (painting.paintTold (sceneWith d 
 unfoldable pub paintBytes : Display → ℕ → ℕ → List ℕ → List ℕ → List ℕ → List ℕ
 paintBytes d a b tables pictures out = painting.paintAfter (sceneWith d tables pictures) a b out
 
--- ---- a whole frame
+-- ---- "A whole frame is a fill and band 0..8, refused as paint."
 
 unfoldable pub frameTold : Display → List ℕ → List ℕ → List ℕ → Told
 frameTold d tables pictures out = toldBy d (painting.frameTold (sceneWith d tables pictures) out (d .errors))

@@ -14,7 +14,8 @@ use Rattle.display.specs.declared.Told.{Told}
 
 -- ---- the state, and a part of it replaced
 
--- "A fresh state has all numbers 0 and nothing selected."
+-- "The state holds pending registers, active registers, frame number (32 bits), error word (32 bits),
+-- and a table selection with its place." "A fresh state has all numbers 0 and nothing selected."
 abbrev pub fresh : Display
 fresh =
     record {
@@ -133,8 +134,8 @@ abbrev pub stepped : Display → Display
 stepped d = withFrame d ((d .frame + 1) % 2 ^ 32)
 
 -- "Then, if the pending update bit is set, the pending words are checked, and if they pass they become
--- the active ones. With the update bit clear nothing is checked or copied."; 7 to 11: "frame number
--- stepped, else unchanged"
+-- the active ones. With the update bit clear nothing is checked or copied. The update bit stays until
+-- written."; 7 to 11: "frame number stepped, else unchanged"
 abbrev pub startOf : Display → Told
 startOf d =
     pickTold (updateOf (d .pending))

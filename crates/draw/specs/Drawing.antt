@@ -1,5 +1,5 @@
--- An instruction list and the colour index at (u, v) after it: 01 "Graphics layers". Coordinates
--- "count from the layer's corner". Assumes nothing.
+-- An instruction list and the colour index at (u, v) after it: 01 "Graphics layers". "Coordinates u, v
+-- count from the layer's corner (house)." Assumes nothing.
 use mathlib.Core.Path.{_≡_}
 use Prim.Native.Nat.{ℕ, zero, suc, _*_}
 use mathlib.Core.Bool.{Bool}

@@ -9,8 +9,8 @@ use Rattle.lists.specs.Zero.{zeroFrom}
 use Rattle.tables.specs.Geometry as geometry
 use Rattle.draw.specs.Instruction.{xStart, yStart, string, scale, textColour}
 
--- 01 "Graphics layers": "stops at the string's first zero byte or after 32 characters": character i
--- of string n, and how many of them are shown
+-- 01 "Graphics layers": "stops at the string's first zero byte or after 32 characters (000: characters
+-- after the NULL are not shown)": character i of string n, and how many of them are shown
 abbrev pub character : List ℕ → ℕ → ℕ → ℕ
 character strings n i = getD strings (geometry.stringLen * n + i) 0
 

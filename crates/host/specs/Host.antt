@@ -10,7 +10,8 @@ use Rattle.words.specs.Check.{checkOf}
 use Rattle.paint.specs.Scene.{Scene, sceneOf}
 use Rattle.paint.specs.Frame.{refusalOf, frameOf}
 
--- "a 208-byte register image (52 little-endian words)"
+-- "The C host calls one exported entry with a 208-byte register image (52 little-endian words), frame
+-- number, tables, pictures, output."
 unfoldable pub wordAt : List ℕ → ℕ → ℕ
 wordAt image i =
     getD image (4 * i) 0 + 256 * getD image (4 * i + 1) 0
@@ -19,12 +20,13 @@ wordAt image i =
 unfoldable pub wordsOf : List ℕ → List ℕ
 wordsOf image = tab 52 (wordAt image)
 
--- "The image counts as active once checked as at a start, without regard to the update bit."
+-- what it paints from: the image's words for the active ones, and the frame number as given
 abbrev pub sceneIn : List ℕ → ℕ → List ℕ → List ℕ → Scene
 sceneIn image frame tables pictures = sceneOf (wordsOf image) frame tables pictures
 
--- "Order 16, 7, 8, 9 and 10, 11, 13, 6, 14.": the check has 7 to 11, and a frame's refusals are 13, 6,
--- 14 once its words have passed (`host-order`)
+-- "The image counts as active once checked as at a start, without regard to the update bit. Order 16,
+-- 7, 8, 9 and 10, 11, 13, 6, 14.": the check has 7 to 11, and a frame's refusals are 13, 6, 14 once its
+-- words have passed (`host-order`)
 unfoldable pub hostAnswer : List ℕ → ℕ → List ℕ → List ℕ → List ℕ → ℕ
 hostAnswer image frame tables pictures out =
     orElse (pick (eqb (length image) 208) done imageLength)

@@ -18,12 +18,13 @@ use Rattle.lines.specs.Hex.{isHex, bytesIn, digitsOf}
 use Rattle.lines.specs.Form.{picturePlace, isFormed}
 use Rattle.lines.specs.Steps.{Midway, midway, runOf, stepsOf}
 
--- "Loads, writes, start, ..": the start, "done once for each well formed line", whatever was
--- refused before it; "A refusal prints the first number met."
+-- "Loads, writes, start, ..". "After a refusal the line's other steps are left out, except the start,
+-- done once for each well formed line." "A refusal prints the first number met."
 unfoldable pub startedOf : Told → Told
 startedOf r = told (startOf (r .state) .state) (orElse (r .answer) (startOf (r .state) .answer))
 
--- "At most 4,096 output bytes are lent": all zero, as many as the screen has where that is not more
+-- "At most 4,096 output bytes are lent; larger screens answer 13 (0D).": all zero, as many as the
+-- screen has where that is not more
 unfoldable pub zeros : ℕ → List ℕ
 zeros n = replicate n 0
 

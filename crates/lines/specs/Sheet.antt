@@ -1,4 +1,5 @@
--- A sheet cut into lines, and what they print: 01 "Sheet program and host entry". Assumes nothing.
+-- A sheet cut into lines, and what they print: 01 "Sheet program and host entry", "reads lines of
+-- hexadecimal, one frame a line". Assumes nothing.
 use Prim.Native.Nat.{ℕ}
 use mathlib.Core.Bool.{Bool, true, false}
 use mathlib.Core.List.{List, [], _∷_, _++_}

@@ -35,7 +35,8 @@ bandBy w step a b p = run a (b - a) (depthStep w step) p
 abbrev pub pixelAt : Scene → ℕ → ℕ → ℕ → ℕ → ℕ → ℕ → ℕ
 pixelAt s x y c a b under = bandBy (s .words) (overAt s x y c) a b under
 
--- byte i of the output, which held p: "Alpha bytes of the output are written by fill only."
+-- byte i of the output, which held p: "Alpha bytes of the output are written by fill only." The
+-- output is in raster order, as pictures are.
 unfoldable pub bandByte : Scene → ℕ → ℕ → ℕ → ℕ → ℕ
 bandByte s a b i p =
     pick (eqb (i % 4) 3) p (pixelAt s (i / 4 % widthOf (s .words)) (i / 4 / widthOf (s .words)) (i % 4) a b p)

@@ -54,7 +54,7 @@ paintRefusal w a b out tables pictures =
 abbrev pub refusalOf : Scene → ℕ → ℕ → List ℕ → ℕ
 refusalOf s a b out = paintRefusal (s .words) a b (length out) (length (s .tables)) (length (s .pictures))
 
--- ---- fill
+-- ---- fill: a refusal leaves "all unchanged"
 
 -- 01 "Painting": "Fill writes the background to every pixel."; "Output alpha is always 255 once filled."
 unfoldable pub fillByte : List ℕ → ℕ → ℕ
@@ -66,7 +66,7 @@ fillOf w = tab (frameLen w) (fillByte w)
 unfoldable pub fillAfter : List ℕ → List ℕ → List ℕ
 fillAfter w out = pickList (eqb (fillRefusal w (length out)) done) (fillOf w) out
 
--- ---- a band
+-- ---- a band: a refusal leaves "all unchanged", the error word too
 
 unfoldable pub paintAfter : Scene → ℕ → ℕ → List ℕ → List ℕ
 paintAfter s a b out = pickList (eqb (refusalOf s a b out) done) (bandOf s a b out) out

@@ -16,10 +16,10 @@ use Rattle.tables.specs.Selection.{activeAt}
 use Rattle.draw.specs.Drawing.{indexAt}
 use Rattle.paint.specs.Scene.{Scene}
 
--- ---- what a layer shows at (u, v), which "count from the layer's corner"
+-- ---- what a layer shows at (u, v): "Coordinates u, v count from the layer's corner (house)."
 
--- 01 "Tables": the bank of a kind (0 instruction, 1 colour, 2 text, 3 font) that word 3 names for
--- controller n, "which serves layer n"
+-- 01 "Tables": "controller g (which serves layer g)". The bank of a kind (0 instruction, 1 colour, 2
+-- text, 3 font) that word 3 names for layer n's controller, which is n
 unfoldable pub bankOf : List ℕ → List ℕ → ℕ → ℕ → List ℕ
 bankOf w tables kind n = take (kindLen kind) (drop (activeAt w kind n) tables)
 
@@ -49,7 +49,7 @@ alphaAt s n u v = pick (layerOf (s .words) n .global) (fadedOf (s .frame) (layer
 
 -- ---- a layer over the screen's pixel (x, y)
 
--- the layer lies at its x, y and is as wide and high as its words say
+-- 01 "Registers", 6+6n and 7+6n: the layer lies at its x, y and is as wide and high as its words say
 abbrev pub spans : ℕ → ℕ → ℕ → Bool
 spans from size p = both (leb from p) (ltb p (from + size))
 

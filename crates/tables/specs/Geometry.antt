@@ -16,7 +16,7 @@ abbrev pub bankLen : ℕ
 bankLen = 1856
 
 -- "in it instructions at 0 (48 of 16 bytes), colours at 768 (16 of 4), strings at 832 (8 of 32), font
--- at 1,088 (96 glyphs of 8 bytes)"
+-- at 1,088 (96 glyphs of 8 bytes). These counts are 000's sample configuration."
 abbrev pub instructions : ℕ
 instructions = 48
 

@@ -12,7 +12,7 @@ use Rattle.words.specs.Fields.{widthOf, heightOf, layerOf}
 
 -- ---- 7
 
--- 01 "Registers": the bits that are a field's in a layer's six words, words 4+6n to 9+6n
+-- 01 "Registers", row for row: the bits that are a field's in a layer's six words, 4+6n to 9+6n
 abbrev pub layerBits : List ℕ
 layerBits = 0x0000_0703 ∷ 0x8000_00ff ∷ 0x0fff_0fff ∷ 0x0fff_0fff ∷ 0xffff_ffff ∷ 0x00ff_ffff ∷ []
 
@@ -41,7 +41,7 @@ screenOf w = pick (eqb (widthOf w) 0) emptyScreen (pick (eqb (heightOf w) 0) emp
 -- ---- 9 and 10
 
 -- "enabled layer with width or height 0", "enabled layer with x+width > output width, or y+height >
--- output height", on a screen of W by H
+-- output height", on a screen of W by H. "Disabled layers are looked at for 7 only."
 unfoldable pub placeOf : ℕ → ℕ → Layer → ℕ
 placeOf W H l =
     pick (l .on)

@@ -8,7 +8,8 @@ use lib.Dec.{eqb}
 use Rattle.words.specs.declared.fields.Ground.{Ground}
 use Rattle.words.specs.declared.fields.Layer.{Layer}
 
--- "11:0" and "27:16": the two numbers of 12 bits that share a word
+-- "11:0" and "27:16": the two numbers of 12 bits that share a word. "000 speaks of 4096 pixels, but
+-- its 12 bit fields end at 4095, and so do we."
 abbrev pub lowOf : ℕ → ℕ
 lowOf v = v % 4096
 
