@@ -1,0 +1,69 @@
+/* Where things lie in the table buffer, and how an instruction is packed. */
+#include <assert.h>
+#include <string.h>
+
+#include "font.h"
+#include "tables.h"
+
+enum { CONTROLLER_LENGTH = 3712, COLOURS_AT = 768, STRINGS_AT = 832, FONT_AT = 1088 };
+enum { INSTRUCTIONS = 48, INSTRUCTION_LENGTH = 16, STRINGS = 8, STRING_LENGTH = 32 };
+enum { BOX = 10, TEXT = 12 };
+
+void put_word(uint8_t *to, uint32_t word)
+{
+    for (int i = 0; i < 4; i++)
+        to[i] = (uint8_t)(word >> (8 * i));
+}
+
+/* A row of a glyph: its leftmost pixel is the top bit. */
+static uint8_t glyph_row(const char *drawn)
+{
+    unsigned row = 0;
+    for (int i = 0; i < 8; i++)
+        row = row << 1 | (drawn[i] == '#');
+    return (uint8_t)row;
+}
+
+struct bank first_bank(uint8_t *tables, int controller)
+{
+    struct bank bank = {tables + CONTROLLER_LENGTH * controller, 0, 0};
+    for (int i = 0; i < GLYPHS * GLYPH_ROWS; i++) {
+        int glyph = i / GLYPH_ROWS, row = i % GLYPH_ROWS;
+        const char *drawn = FONT[glyph / SIDE_BY_SIDE * GLYPH_ROWS + row];
+        bank.bytes[FONT_AT + i] = glyph_row(drawn + glyph % SIDE_BY_SIDE * GLYPH_PITCH);
+    }
+    return bank;
+}
+
+void set_colour(struct bank *bank, int index, const uint8_t colour[4])
+{
+    memcpy(bank->bytes + COLOURS_AT + 4 * index, colour, 4);
+}
+
+static uint8_t *next_instruction(struct bank *bank)
+{
+    assert(bank->instructions < INSTRUCTIONS);
+    return bank->bytes + INSTRUCTION_LENGTH * bank->instructions++;
+}
+
+void draw_box(struct bank *bank, uint32_t x, uint32_t y, uint32_t width, uint32_t height,
+              uint32_t weight, uint32_t colour)
+{
+    uint8_t *to = next_instruction(bank);
+    uint32_t x_end = x + width - 1, y_end = y + height - 1; /* a box has its ends included */
+    put_word(to, (uint32_t)BOX << 28 | x_end << 12 | x);
+    put_word(to + 8, weight << 24 | y_end << 12 | y);
+    put_word(to + 12, colour);
+}
+
+void draw_text(struct bank *bank, uint32_t x, uint32_t y, enum scale scale, uint32_t colour,
+               const char *string)
+{
+    uint8_t *to = next_instruction(bank);
+    assert(bank->strings < STRINGS && strlen(string) <= STRING_LENGTH);
+    memcpy(bank->bytes + STRINGS_AT + STRING_LENGTH * bank->strings, string, strlen(string));
+    put_word(to, (uint32_t)TEXT << 28 | x);
+    put_word(to + 4, bank->strings++);
+    put_word(to + 8, (uint32_t)scale << 30 | y);
+    put_word(to + 12, colour << 8);
+}

@@ -1,0 +1,34 @@
+/* Fills a controller's bank of the table buffer: font, colours, strings and instruction list. */
+#ifndef TABLES_H
+#define TABLES_H
+
+#include <stdint.h>
+
+/* A bank, and how many of its instructions and strings are in use. */
+struct bank {
+    uint8_t *bytes;
+    uint32_t instructions, strings;
+};
+
+/* The scale as an instruction has it. */
+enum scale { SCALE_1, SCALE_2, SCALE_4, SCALE_8 };
+
+/* Stores a word as the display reads it, the lowest byte first. */
+void put_word(uint8_t *to, uint32_t word);
+
+/* Bank 0 of a controller, with the font in it. The tables are all zero at first, so the list ends
+ * after the last instruction put (0 is END) and a string after its last character. */
+struct bank first_bank(uint8_t *tables, int controller);
+
+/* Colour 0 is what every pixel of the layer begins with. */
+void set_colour(struct bank *bank, int index, const uint8_t colour[4]);
+
+/* A box by its corner and size: filled with weight 0, else an outline as thick as the weight. */
+void draw_box(struct bank *bank, uint32_t x, uint32_t y, uint32_t width, uint32_t height,
+              uint32_t weight, uint32_t colour);
+
+/* A string of at most 32 characters. */
+void draw_text(struct bank *bank, uint32_t x, uint32_t y, enum scale scale, uint32_t colour,
+               const char *string);
+
+#endif
