@@ -13,9 +13,11 @@ use lib.Dec.{eqb}
 use borrow.Author.Tests.{ne-eqb, lt-ltb, le-ltb, lt-leb}
 use Rattle.bytes.specs.Bytes.{indexOf, indexAfter}
 use Rattle.lists.proofs.Choice.{split}
+use Rattle.tables.specs.Geometry.{tablesLen}
 use Rattle.display.specs.declared.Display.{Display}
-use Rattle.lines.specs.Line.{badOf, outcomeOf, Ran, idle, lineOf, pickRan}
-use Rattle.lines.specs.Sheet.{pickLines, linesFrom, after, linesOf, sheetOf}
+use Rattle.display.specs.State.{fresh}
+use Rattle.lines.specs.Line.{zeros, badOf, outcomeOf, Ran, idle, lineOf, pickRan}
+use Rattle.lines.specs.Sheet.{pickLines, linesFrom, after, linesOf, sheetOf, programOf}
 use Rattle.lines.specs.Blocks.{endsIn, lineIn, heldIn, usedIn, fedRun, lastRun}
 
 -- ---- a line that is too long is one by its first 8,193 bytes
@@ -141,6 +143,26 @@ finish-left d t x = go (eqb (length x) 0)
     go : (z : Bool) → linesOf d t (pickLines z [] (x ∷ [])) ≡ pickRan z (idle d t) (lineOf d t x)
     go true = refl
     go false = ap (λ (p : List ℕ). record { state = lineOf d t x .state; tables = lineOf d t x .tables; printed = p }) (append-nil (lineOf d t x .printed))
+
+-- ---- the program's calls
+
+-- a sheet fed by calls of `feed`, each on bytes that have come and are not yet used, and then
+-- `finish`: x has come of a line, and the calls make r of the bytes that are left
+pub data Fed : Display → List ℕ → List ℕ → List ℕ → Ran → Type 0 where
+  at-end : (d : Display) (t x : List ℕ) → Fed d t x [] (lastRun d t x)
+  by-feed : (d : Display) (t x l more : List ℕ) (r : Ran)
+      → Fed (fedRun d t x l .state) (fedRun d t x l .tables) (heldIn x l) (drop (usedIn l) l ++ more) r
+      → Fed d t x (l ++ more) (after (fedRun d t x l .printed) r)
+
+pub fed-left : {d : Display} {t x bytes : List ℕ} {r : Ran} → Fed d t x bytes r → r ≡ linesOf d t (linesFrom x bytes)
+fed-left (at-end d t x) = sym (finish-left d t x)
+fed-left (by-feed d t x l more r f) =
+    ap (after (fedRun d t x l .printed)) (fed-left f) ∙ sym (feed-left d t x l more)
+
+-- from a fresh state and zeros, they print what the program is to print, however the sheet came
+pub fed-program : (bytes : List ℕ) (r : Ran) → Fed fresh (zeros tablesLen) [] bytes r → r .printed ≡ programOf bytes
+unfolding programOf sheetOf
+fed-program bytes r f = ap (λ (q : Ran). q .printed) (fed-left f)
 
 -- ---- two runs
 
