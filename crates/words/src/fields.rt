@@ -1,4 +1,5 @@
-// The fields of the 52 words by name: 01 "Registers". No other file shifts or masks a word.
+// The fields of the 52 words by name: 01 "Registers". No other file reads a field of a word; the check
+// of reserved bits alone masks whole words.
 ghost use mathlib.Core.Path.{_≡_};
 ghost use Prim.Native.Nat.{_<_};
 ghost use Rattle.words.specs.Fields.{shownOf, updateOf, widthOf, heightOf, groundsOf, activeBankOf, layerOf, lowOf, highOf};
