@@ -57,7 +57,7 @@ module _ (image : List ℕ) (frame : ℕ) (tables pictures out : List ℕ) where
 -- ---- "Order 16, 7, 8, 9 and 10, 11, 13, 6, 14.": after the check a frame is refused by 13, 6, 14 alone
 
 -- words that pass have a size
-check-sized : (w : List ℕ) → checkOf w ≡ 0 → sizeRefusal w ≡ 0
+pub check-sized : (w : List ℕ) → checkOf w ≡ 0 → sizeRefusal w ≡ 0
 unfolding checkOf screenOf
 check-sized w e = sized (eqb (widthOf w) 0) (eqb (heightOf w) 0) (orElse-left (screenOf w) _ (orElse-right (firstOf 52 (reservedAt w)) _ e))
   where

@@ -8,3 +8,5 @@ pub mod Opaque
 pub mod Invisible
 pub mod Between
 pub mod Worked
+pub mod Figures
+pub mod States

@@ -1,2 +1,4 @@
 -- What the laws speak of. Assumes nothing.
 pub mod Painting
+pub mod Figures
+pub mod States

@@ -1,0 +1,20 @@
+-- What painting asks of a caller, in the states that come to be: 01 "What the display is made of",
+-- "Answers by number". Assumes nothing.
+use Prim.Native.Nat.{ℕ}
+use mathlib.Core.Path.{_≡_}
+use mathlib.Core.List.{List}
+use lib.ListN.{length, replicate}
+use Rattle.words.specs.Pictures.{picturesLen}
+use Rattle.tables.specs.Geometry.{tablesLen}
+use Rattle.paint.specs.Frame.{frameLen}
+use Rattle.display.specs.declared.Display.{Display}
+
+-- no start has let words in: the active words are still a fresh state's
+abbrev pub Unstarted : Display → Type 0
+Unstarted d = d .active ≡ replicate 52 0
+
+-- the tables t, the pictures p and the output o are as long as the active words ask: rows 6, 14 and 13
+pub record Fitting (d : Display) (t p o : List ℕ) : Type 0 where
+  pub tables : length t ≡ tablesLen
+  pub pictures : length p ≡ picturesLen (d .active)
+  pub output : length o ≡ frameLen (d .active)
