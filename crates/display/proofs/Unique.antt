@@ -1,67 +1,66 @@
--- No two outcomes meet a call's promise: an outcome is the answer, the state and every byte of the
--- buffer that the call writes. Assumes nothing.
+-- No two outcomes meet a call's promise. `Post` is the call's own `ensures`, as the check reads it in
+-- `src/lib.rt`: of the arguments i, the answer a or b, and the arguments at exit, e or f. An outcome is
+-- the answer, with the state, and every byte of the buffer that the call writes. Assumes nothing.
 use mathlib.Core.Path.{_≡_, sym, _∙_}
-use mathlib.Core.List.{List}
-use Prim.Native.Nat.{ℕ}
-use Rattle.words.specs.Fields.{widthOf, heightOf}
-use Rattle.display.specs.declared.Display.{Display}
-use Rattle.display.specs.declared.Told.{Told}
-use Rattle.display.specs.State.{fresh, writeOf, selectOf, toggleOf, startOf}
-use Rattle.display.specs.Put.{putOf, putTables}
-use Rattle.display.specs.Paint.{fillTold, fillBytes, paintTold, paintBytes, frameTold, frameBytes}
+use denote.Ref.{now}
+use Rattle.display.proofs.Display.new.Reads as new
+use Rattle.display.proofs.Display.write.Reads as write
+use Rattle.display.proofs.Display.select.Reads as select
+use Rattle.display.proofs.Display.toggle.Reads as toggle
+use Rattle.display.proofs.Display.start.Reads as start
+use Rattle.display.proofs.Display.put.Reads as put
+use Rattle.display.proofs.Display.fill.Reads as fill
+use Rattle.display.proofs.Display.paint.Reads as paint
+use Rattle.display.proofs.Display.frame.Reads as frame
+use Rattle.display.proofs.Display.error_word.Reads as error_word
+use Rattle.display.proofs.Display.frame_number.Reads as frame_number
+use Rattle.display.proofs.Display.output_width.Reads as output_width
+use Rattle.display.proofs.Display.output_height.Reads as output_height
 
 -- two that equal a third
 same : {A : Type 0} {x y z : A} → x ≡ z → y ≡ z → x ≡ y
 same p q = p ∙ sym q
 
-pub new-unique : {a b : Display} → a ≡ fresh → b ≡ fresh → a ≡ b
-new-unique p q = same p q
+pub new-unique : (κs i a b e f : _) → new.Post κs i a e → new.Post κs i b f → a ≡ b
+new-unique κs i a b e f p q = same p q
 
-module _ (d : Display) {a b : Told} where
-  pub write-unique : (register value : ℕ) → a ≡ writeOf d register value → b ≡ writeOf d register value → a ≡ b
-  write-unique register value p q = same p q
+pub write-unique : (κs i a b e f : _) → write.Post κs i a e → write.Post κs i b f → a ≡ b
+write-unique κs i a b e f p q = same p q
 
-  pub select-unique : (selection : ℕ) → a ≡ selectOf d selection → b ≡ selectOf d selection → a ≡ b
-  select-unique selection p q = same p q
+pub select-unique : (κs i a b e f : _) → select.Post κs i a e → select.Post κs i b f → a ≡ b
+select-unique κs i a b e f p q = same p q
 
-  pub toggle-unique : (bits : ℕ) → a ≡ toggleOf d bits → b ≡ toggleOf d bits → a ≡ b
-  toggle-unique bits p q = same p q
+pub toggle-unique : (κs i a b e f : _) → toggle.Post κs i a e → toggle.Post κs i b f → a ≡ b
+toggle-unique κs i a b e f p q = same p q
 
-  pub start-unique : a ≡ startOf d → b ≡ startOf d → a ≡ b
-  start-unique p q = same p q
+pub start-unique : (κs i a b e f : _) → start.Post κs i a e → start.Post κs i b f → a ≡ b
+start-unique κs i a b e f p q = same p q
 
-  pub put-unique : (tables : List ℕ) (byte : ℕ) {s t : List ℕ}
-      → (a ≡ putOf d tables) × (s ≡ putTables d tables byte)
-      → (b ≡ putOf d tables) × (t ≡ putTables d tables byte)
-      → (a ≡ b) × (s ≡ t)
-  put-unique tables byte p q = (same (p .0) (q .0), same (p .1) (q .1))
+-- the tables are the second argument
+pub put-unique : (κs i a b e f : _) → put.Post κs i a e → put.Post κs i b f → (a ≡ b) × (now (e .1 .0) ≡ now (f .1 .0))
+put-unique κs i a b e f p q = (same (p .0) (q .0), same (p .1) (q .1))
 
-  pub fill-unique : (out : List ℕ) {s t : List ℕ} → (a ≡ fillTold d out) × (s ≡ fillBytes d out) → (b ≡ fillTold d out) × (t ≡ fillBytes d out)
-      → (a ≡ b) × (s ≡ t)
-  fill-unique out p q = (same (p .0) (q .0), same (p .1) (q .1))
+-- the output is the last one
+pub fill-unique : (κs i a b e f : _) → fill.Post κs i a e → fill.Post κs i b f → (a ≡ b) × (now (e .1 .0) ≡ now (f .1 .0))
+fill-unique κs i a b e f p q = (same (p .0) (q .0), same (p .1) (q .1))
 
-  pub paint-unique : (low high : ℕ) (tables pictures out : List ℕ) {s t : List ℕ}
-      → (a ≡ paintTold d low high tables pictures out) × (s ≡ paintBytes d low high tables pictures out)
-      → (b ≡ paintTold d low high tables pictures out) × (t ≡ paintBytes d low high tables pictures out)
-      → (a ≡ b) × (s ≡ t)
-  paint-unique low high tables pictures out p q = (same (p .0) (q .0), same (p .1) (q .1))
+pub paint-unique : (κs i a b e f : _) → paint.Post κs i a e → paint.Post κs i b f
+    → (a ≡ b) × (now (e .1 .1 .1 .1 .1 .0) ≡ now (f .1 .1 .1 .1 .1 .0))
+paint-unique κs i a b e f p q = (same (p .0) (q .0), same (p .1) (q .1))
 
-  pub frame-unique : (tables pictures out : List ℕ) {s t : List ℕ}
-      → (a ≡ frameTold d tables pictures out) × (s ≡ frameBytes d tables pictures out)
-      → (b ≡ frameTold d tables pictures out) × (t ≡ frameBytes d tables pictures out)
-      → (a ≡ b) × (s ≡ t)
-  frame-unique tables pictures out p q = (same (p .0) (q .0), same (p .1) (q .1))
+pub frame-unique : (κs i a b e f : _) → frame.Post κs i a e → frame.Post κs i b f
+    → (a ≡ b) × (now (e .1 .1 .1 .0) ≡ now (f .1 .1 .1 .0))
+frame-unique κs i a b e f p q = (same (p .0) (q .0), same (p .1) (q .1))
 
 -- the reads answer a number of the state
-module _ (d : Display) {a b : ℕ} where
-  pub error-word-unique : a ≡ d .errors → b ≡ d .errors → a ≡ b
-  error-word-unique p q = same p q
+pub error-word-unique : (κs i a b e f : _) → error_word.Post κs i a e → error_word.Post κs i b f → a ≡ b
+error-word-unique κs i a b e f p q = same p q
 
-  pub frame-number-unique : a ≡ d .frame → b ≡ d .frame → a ≡ b
-  frame-number-unique p q = same p q
+pub frame-number-unique : (κs i a b e f : _) → frame_number.Post κs i a e → frame_number.Post κs i b f → a ≡ b
+frame-number-unique κs i a b e f p q = same p q
 
-  pub output-width-unique : a ≡ widthOf (d .active) → b ≡ widthOf (d .active) → a ≡ b
-  output-width-unique p q = same p q
+pub output-width-unique : (κs i a b e f : _) → output_width.Post κs i a e → output_width.Post κs i b f → a ≡ b
+output-width-unique κs i a b e f p q = same p q
 
-  pub output-height-unique : a ≡ heightOf (d .active) → b ≡ heightOf (d .active) → a ≡ b
-  output-height-unique p q = same p q
+pub output-height-unique : (κs i a b e f : _) → output_height.Post κs i a e → output_height.Post κs i b f → a ≡ b
+output-height-unique κs i a b e f p q = same p q

@@ -1,5 +1,4 @@
--- The cases of the entry, the order of its refusals, and that no two outcomes meet its promise.
--- Assumes nothing.
+-- The cases of the entry, and the order of its refusals. Assumes nothing.
 use mathlib.Core.Path.{_≡_, refl, sym, ap, _∙_}
 use mathlib.Core.Bool.{Bool, true, false}
 use mathlib.Core.List.{List}
@@ -72,11 +71,3 @@ pub host-order : (image : List ℕ) (frame : ℕ) (tables pictures out : List �
 unfolding paintRefusal
 host-order image frame tables pictures out long e =
     checked image frame tables pictures out long 0 (sym e) ∙ rw (check-sized (wordsOf image) e)
-
--- ---- no two outcomes
-
-pub host-unique : (image : List ℕ) (frame : ℕ) (tables pictures out : List ℕ) {a b : ℕ} {s t : List ℕ}
-    → (a ≡ hostAnswer image frame tables pictures out) × (s ≡ hostOutput image frame tables pictures out)
-    → (b ≡ hostAnswer image frame tables pictures out) × (t ≡ hostOutput image frame tables pictures out)
-    → (a ≡ b) × (s ≡ t)
-host-unique image frame tables pictures out p q = (p .0 ∙ sym (q .0), p .1 ∙ sym (q .1))

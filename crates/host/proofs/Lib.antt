@@ -1,2 +1,3 @@
 -- The laws of this crate. Assumes nothing.
 pub mod HostLaws
+pub mod Unique
