@@ -1,5 +1,5 @@
--- Worked figures of boxes and text: instruction lists as bytes, and the index at (u, v), by computing.
--- Assumes nothing.
+-- Worked figures of filled boxes and text: instruction lists as bytes, and the index at (u, v), by
+-- computing. Assumes nothing.
 use mathlib.Core.Path.{_≡_, refl}
 use mathlib.Core.Bool.{true}
 use mathlib.Core.List.{List, [], _∷_, _++_}
@@ -11,10 +11,10 @@ use Rattle.draw.specs.Box.{boxAfter, boxOf}
 use Rattle.draw.specs.Text.{shownOf, glyphRow, pixelOf, inked, rowAfter, stringPixel, textAfter, textOf}
 use Rattle.draw.specs.Drawing.{drawnBy, drawnTo, countOf, endedOf, indexAt}
 
--- opcode op, x 2..5, string n, y 1..3, outline weight k, box colour 5, text colour 7, scale 1
-abbrev one : ℕ → ℕ → ℕ → List ℕ
-one op n k =
-    2 ∷ 80 ∷ 0 ∷ op ∷ n ∷ 0 ∷ 0 ∷ 0 ∷ 1 ∷ 48 ∷ 0 ∷ k ∷ 5 ∷ 7 ∷ 0 ∷ 0 ∷ []
+-- opcode op, x 2..5, string n, y 1..3, outline weight 0, box colour 5, text colour 7, scale 1
+abbrev one : ℕ → ℕ → List ℕ
+one op n =
+    2 ∷ 80 ∷ 0 ∷ op ∷ n ∷ 0 ∷ 0 ∷ 0 ∷ 1 ∷ 48 ∷ 0 ∷ 0 ∷ 5 ∷ 7 ∷ 0 ∷ 0 ∷ []
 
 -- the top bytes of word 0 for END, a box, text, and both
 abbrev END : ℕ
@@ -39,35 +39,29 @@ font = 0 ∷ 0 ∷ 0 ∷ 0 ∷ 0 ∷ 0 ∷ 0 ∷ 0 ∷ 129 ∷ 66 ∷ []
 abbrev at : List ℕ → ℕ → ℕ → ℕ
 at ins u v = indexAt ins signs font v u
 
--- 01 "Bench figures": "Box 2..5 by 1..3, weight 1: (3,2) left, (2,2) drawn, (6,3) left. Weight 2: (3,2)
--- drawn."
-pub boxes : (at (one BOX 0 1) 3 2 ∷ at (one BOX 0 1) 2 2 ∷ at (one BOX 0 1) 6 3 ∷ at (one BOX 0 2) 3 2 ∷ []) ≡ (0 ∷ 5 ∷ 0 ∷ 5 ∷ [])
-unfolding indexAt countOf zeroFrom drawnTo drawnBy boxOf boxAfter wordAt
-boxes = refl
-
 -- weight 0 fills, and both ends are included
-pub fills : (at (one BOX 0 0) 3 2 ∷ at (one BOX 0 0) 5 3 ∷ at (one BOX 0 0) 2 1 ∷ at (one BOX 0 0) 5 4 ∷ []) ≡ (5 ∷ 5 ∷ 5 ∷ 0 ∷ [])
+pub fills : (at (one BOX 0) 3 2 ∷ at (one BOX 0) 5 3 ∷ at (one BOX 0) 2 1 ∷ at (one BOX 0) 5 4 ∷ []) ≡ (5 ∷ 5 ∷ 5 ∷ 0 ∷ [])
 unfolding indexAt countOf zeroFrom drawnTo drawnBy boxOf boxAfter wordAt
 fills = refl
 
 -- rows 1 and 2 of the text: its first pixel is at x start, byte 31 leaves its cell, the character
 -- after the zero byte is not shown
-pub letters : (tab 30 (indexAt (one TEXT 0 0) signs font 1) ≡
+pub letters : (tab 30 (indexAt (one TEXT 0) signs font 1) ≡
     (0 ∷ 0 ∷ 7 ∷ 0 ∷ 0 ∷ 0 ∷ 0 ∷ 0 ∷ 0 ∷ 7 ∷ 0 ∷ 0 ∷ 0 ∷ 0 ∷ 0 ∷ 0 ∷ 0 ∷ 0 ∷ 7 ∷ 0 ∷ 0 ∷ 0 ∷ 0 ∷ 0 ∷ 0 ∷ 7 ∷ 0 ∷ 0 ∷ 0 ∷ 0 ∷ []))
-    × ((at (one TEXT 0 0) 2 2 ∷ at (one TEXT 0 0) 3 2 ∷ []) ≡ (0 ∷ 7 ∷ []))
+    × ((at (one TEXT 0) 2 2 ∷ at (one TEXT 0) 3 2 ∷ []) ≡ (0 ∷ 7 ∷ []))
 unfolding tab indexAt countOf zeroFrom drawnTo drawnBy textOf textAfter rowAfter stringPixel shownOf inked pixelOf glyphRow scaleOf wordAt
 letters = (refl, refl)
 
 -- opcode 14 draws text over its box; a string number above 7 takes only the text away
-pub both-drawn : (at (one BOTH 0 0) 2 1 ∷ at (one BOTH 0 0) 3 1 ∷ at (one BOTH 8 0) 2 1 ∷ []) ≡ (7 ∷ 5 ∷ 5 ∷ [])
+pub both-drawn : (at (one BOTH 0) 2 1 ∷ at (one BOTH 0) 3 1 ∷ at (one BOTH 8) 2 1 ∷ []) ≡ (7 ∷ 5 ∷ 5 ∷ [])
 unfolding indexAt countOf zeroFrom drawnTo drawnBy boxOf boxAfter textOf textAfter rowAfter stringPixel shownOf inked pixelOf glyphRow scaleOf wordAt
 both-drawn = refl
 
 -- what stands after an END is not drawn
-pub ended : (at (one END 0 0 ++ one BOX 0 0) 2 1 ∷ countOf (one END 0 0 ++ one BOX 0 0) ∷ countOf (one BOX 0 0) ∷ []) ≡ (0 ∷ 0 ∷ 1 ∷ [])
+pub ended : (at (one END 0 ++ one BOX 0) 2 1 ∷ countOf (one END 0 ++ one BOX 0) ∷ countOf (one BOX 0) ∷ []) ≡ (0 ∷ 0 ∷ 1 ∷ [])
 unfolding indexAt countOf zeroFrom drawnTo drawnBy boxOf boxAfter wordAt
 ended = refl
 
-pub found : endedOf (one BOX 0 0) ≡ true
+pub found : endedOf (one BOX 0) ≡ true
 unfolding endedOf countOf zeroFrom wordAt
 found = refl

@@ -10,3 +10,6 @@ pub mod Between
 pub mod Worked
 pub mod Figures
 pub mod States
+pub mod Small
+pub mod Impostors
+pub mod Document

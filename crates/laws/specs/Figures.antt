@@ -21,7 +21,7 @@ abbrev fade : ℕ → ℕ → ℕ
 fade start frame = fadeOf 0 255 4 start frame
 
 -- the four bytes of a word, the lowest first
-abbrev bytesOf : ℕ → List ℕ
+abbrev pub bytesOf : ℕ → List ℕ
 bytesOf w = w % 2 ^ 8 ∷ w / 2 ^ 8 % 2 ^ 8 ∷ w / 2 ^ 16 % 2 ^ 8 ∷ w / 2 ^ 24 ∷ []
 
 -- "Box 2..5 by 1..3", of an outline weight and colour 1: an instruction of opcode 10

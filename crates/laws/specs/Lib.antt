@@ -2,3 +2,5 @@
 pub mod Painting
 pub mod Figures
 pub mod States
+pub mod Small
+pub mod Impostors

@@ -1,0 +1,230 @@
+-- The small inputs: their states come to be, each is accepted, and what is promised of them, by
+-- computing. Assumes nothing.
+use Prim.Native.Nat.{ℕ, _<_}
+use mathlib.Core.Path.{_≡_, refl, ap, _∙_}
+use mathlib.Core.List.{List, [], _∷_, _++_}
+use borrow.Author.Tests.{eq-eqb}
+use lib.ListN.{length, getD, length-replicate, getD-replicate}
+use Rattle.bytes.specs.Bytes.{indexOf}
+use Rattle.lists.specs.Over.{over}
+use Rattle.lists.specs.Runs.{firstOf, sumOf, run}
+use Rattle.lists.specs.Tab.{tab, each}
+use Rattle.answers.specs.Answers.{done, emptyScreen}
+use Rattle.words.specs.Fields.{layerOf}
+use Rattle.words.specs.Check.{reservedAt, screenOf, placeOf, placeAt, clashOf, clashAt, clashBelow, checkOf}
+use Rattle.words.specs.Pictures.{pictureLen, pictureLenAt, pictureStart, picturesLen}
+use Rattle.tables.specs.Geometry.{tablesLen, kindLen}
+use Rattle.mix.specs.Blend.{blendOf}
+use Rattle.paint.specs.Pixel.{overAt, covers, alphaAt, ownAt, pictureAt}
+use Rattle.paint.specs.Band.{layerStep, depthStep, bandBy, bandByte, bandOf, markAt, missing, errorsOf}
+use Rattle.paint.specs.Frame as painting
+use Rattle.display.specs.declared.Display.{Display}
+use Rattle.display.specs.State.{fresh, writeOf, selectOf, toggleOf, startOf}
+use Rattle.display.specs.Put.{putAnswer, putOf}
+use Rattle.display.specs.Paint.{fillTold, fillBytes, paintTold, paintBytes, frameTold, frameBytes}
+use Rattle.display.specs.Reached.{Reached, by-new, by-write, by-select, by-start}
+use Rattle.host.specs.Host as host
+use Rattle.lines.specs.Hex.{valueOf, isHex, bytesIn, digitOf, digitsOf}
+use Rattle.lines.specs.Form.{countAt, wordAt, pastLoads, writesPlace, picturePlace, endPlace, isFormed}
+use Rattle.lines.specs.Steps.{stepOf, runOf, loadsAt, writesAt, stepsOf}
+use Rattle.lines.specs.Line.{startedOf, zeros, lentOf, framedOf, paintedOf, headOf, replyOf, endOf, workOf, doneOf, outcomeOf, textOf, lineOf}
+use Rattle.lines.specs.Blocks.{endsIn, lineIn, fedRun, lastRun}
+use Rattle.laws.specs.Small.{Write, writtenTo, onePixel, grey, night, written, started, sizeless, selecting, blank, filled, white, clear, dim, bright, image, line, page, scene, painted, framed, hostScene, hosted, printed}
+
+-- ---- what is unfolded to compute: the words, a frame, a line
+
+unfoldable pub wordsOpen : Unit {0}
+unfolding checkOf firstOf reservedAt screenOf placeAt placeOf clashBelow clashAt clashOf layerOf picturesLen pictureLenAt pictureLen sumOf
+wordsOpen = tt
+
+unfoldable pub frameOpen : Unit {0}
+unfolding wordsOpen painting.frameOf painting.fillOf painting.fillByte bandOf bandByte bandBy depthStep layerStep run tab each overAt covers alphaAt ownAt pictureAt pictureStart blendOf
+frameOpen = tt
+
+unfoldable pub lineOpen : Unit {0}
+unfolding frameOpen errorsOf markAt missing painting.paintRefusal painting.frameAfter painting.frameTold painting.paintTold frameTold frameBytes valueOf isHex bytesIn digitOf digitsOf countAt wordAt pastLoads writesPlace picturePlace endPlace isFormed stepOf runOf loadsAt writesAt stepsOf startedOf zeros lentOf framedOf paintedOf replyOf endOf workOf doneOf outcomeOf textOf lineOf
+lineOpen = tt
+
+-- ---- the states come to be
+
+writtenTo-reached : {d : Display} → Reached d → (l : List Write) → Reached (writtenTo d l)
+writtenTo-reached r [] = r
+writtenTo-reached r (w ∷ rest) = writtenTo-reached (by-write (w .register) (w .value) r) rest
+
+pub written-reached : (ground : ℕ) → Reached (written ground)
+written-reached ground = writtenTo-reached by-new (onePixel ground)
+
+pub started-reached : (ground : ℕ) → Reached (started ground)
+started-reached ground = by-start (written-reached ground)
+
+pub sizeless-reached : Reached sizeless
+sizeless-reached = by-write 0 4 by-new
+
+pub selecting-reached : Reached selecting
+selecting-reached = by-select 1 by-new
+
+-- ---- each call is accepted
+
+pub blank-long : length blank ≡ tablesLen
+unfolding zeros
+blank-long = length-replicate {A = ℕ} tablesLen 0
+
+pub blank-byte : (i : ℕ) → i < tablesLen → getD blank i 0 ≡ 0
+unfolding zeros
+blank-byte i h = getD-replicate {A = ℕ} tablesLen i 0 0 h
+
+pub write-accepted : writeOf fresh 0 1 .answer ≡ done
+write-accepted = refl
+
+pub select-accepted : selectOf fresh 1 .answer ≡ done
+select-accepted = refl
+
+pub toggle-accepted : toggleOf fresh 1 .answer ≡ done
+toggle-accepted = refl
+
+pub start-accepted : startOf (written grey) .answer ≡ done
+unfolding wordsOpen
+start-accepted = refl
+
+-- but for this one, which is refused with 8
+pub start-refused : startOf sizeless .answer ≡ emptyScreen
+unfolding wordsOpen
+start-refused = refl
+
+pub put-passes : putAnswer selecting blank ≡ done
+unfolding putAnswer kindLen
+put-passes = rw (eq-eqb _ _ blank-long)
+
+pub put-accepted : putOf selecting blank .answer ≡ done
+unfolding putOf
+put-accepted = put-passes
+
+pub fill-accepted : (fillTold (started grey) filled .answer ≡ done) × (fillTold (started night) filled .answer ≡ done)
+unfolding wordsOpen fillTold painting.fillRefusal
+fill-accepted = (refl, refl)
+
+-- with any pictures of two pixels
+module _ (pictures : List ℕ) (two : length pictures ≡ 8) where
+  passes : painting.refusalOf (scene pictures) 0 8 filled ≡ done
+  unfolding wordsOpen painting.paintRefusal
+  passes = rw (eq-eqb _ _ blank-long, two)
+
+  pub paint-accepted : paintTold (started grey) 0 8 blank pictures filled .answer ≡ done
+  unfolding paintTold painting.paintTold
+  paint-accepted = passes
+
+  pub frame-accepted : frameTold (started grey) blank pictures filled .answer ≡ done
+  unfolding frameTold painting.frameTold painting.paintTold
+  frame-accepted = passes
+
+  pub host-accepted : host.hostAnswer image 1 blank pictures filled ≡ done
+  unfolding wordsOpen host.hostAnswer host.wordsOf host.wordAt tab painting.paintRefusal
+  host-accepted = rw (eq-eqb _ _ blank-long, two)
+
+  -- ---- what is promised: the frame of the scene
+
+  pub painted-is : painted pictures ≡ painting.frameOf (scene pictures)
+  unfolding frameOpen paintBytes painting.paintAfter
+  painted-is = rw passes
+
+  pub framed-is : framed pictures ≡ painting.frameOf (scene pictures)
+  unfolding frameBytes painting.frameAfter
+  framed-is = rw passes
+
+  pub host-scene : hostScene pictures ≡ scene pictures
+  unfolding wordsOpen host.wordsOf host.wordAt tab
+  host-scene = refl
+
+  pub hosted-is : hosted pictures ≡ painting.frameOf (scene pictures)
+  unfolding host.hostOutput
+  hosted-is = rw host-accepted (ap painting.frameOf host-scene)
+
+-- and so the bytes by each picture
+pub record Promised (pictures bytes : List ℕ) : Type 0 where
+  pub paint : painted pictures ≡ bytes
+  pub frame : framed pictures ≡ bytes
+  pub host : hosted pictures ≡ bytes
+
+promised : (pictures bytes : List ℕ) → length pictures ≡ 8 → painting.frameOf (scene pictures) ≡ bytes → Promised pictures bytes
+promised pictures bytes two is =
+    record { paint = painted-is pictures two ∙ is; frame = framed-is pictures two ∙ is; host = hosted-is pictures two ∙ is }
+
+pub white-promised : Promised white (255 ∷ 255 ∷ 255 ∷ 255 ∷ [])
+unfolding frameOpen
+white-promised = promised white _ refl refl
+
+pub clear-promised : Promised clear (100 ∷ 100 ∷ 100 ∷ 255 ∷ [])
+unfolding frameOpen
+clear-promised = promised clear _ refl refl
+
+pub dim-promised : Promised dim (100 ∷ 100 ∷ 100 ∷ 255 ∷ [])
+unfolding frameOpen
+dim-promised = promised dim _ refl refl
+
+pub bright-promised : Promised bright (101 ∷ 101 ∷ 101 ∷ 255 ∷ [])
+unfolding frameOpen
+bright-promised = promised bright _ refl refl
+
+pub grey-fill : fillBytes (started grey) filled ≡ 100 ∷ 100 ∷ 100 ∷ 255 ∷ []
+unfolding frameOpen fillBytes painting.fillAfter painting.fillRefusal
+grey-fill = refl
+
+pub night-fill : fillBytes (started night) filled ≡ 0 ∷ 0 ∷ 0 ∷ 255 ∷ []
+unfolding frameOpen fillBytes painting.fillAfter painting.fillRefusal
+night-fill = refl
+
+-- ---- a line: answer 0, no error, one by one pixel, and the frame
+
+abbrev pub replyWith : List ℕ → List ℕ
+replyWith frame = textOf (done ∷ headOf (started grey) ++ frame)
+
+-- with any tables of the right length
+module _ (t : List ℕ) (long : length t ≡ tablesLen) where
+  line-white : lineOf fresh t (line white) .printed ≡ replyWith (255 ∷ 255 ∷ 255 ∷ 255 ∷ [])
+  unfolding lineOpen
+  line-white = rw (eq-eqb _ _ long)
+
+  line-clear : lineOf fresh t (line clear) .printed ≡ replyWith (100 ∷ 100 ∷ 100 ∷ 255 ∷ [])
+  unfolding lineOpen
+  line-clear = rw (eq-eqb _ _ long)
+
+  line-dim : lineOf fresh t (line dim) .printed ≡ replyWith (100 ∷ 100 ∷ 100 ∷ 255 ∷ [])
+  unfolding lineOpen
+  line-dim = rw (eq-eqb _ _ long)
+
+  line-bright : lineOf fresh t (line bright) .printed ≡ replyWith (101 ∷ 101 ∷ 101 ∷ 255 ∷ [])
+  unfolding lineOpen
+  line-bright = rw (eq-eqb _ _ long)
+
+-- on the page
+pub on-page : {x y : List ℕ} → x ≡ y → over x page ≡ over y page
+on-page e = ap (λ (l : List ℕ). over l page) e
+
+pub printed-white : printed white ≡ over (replyWith (255 ∷ 255 ∷ 255 ∷ 255 ∷ [])) page
+printed-white = on-page (line-white blank blank-long)
+
+pub printed-clear : printed clear ≡ over (replyWith (100 ∷ 100 ∷ 100 ∷ 255 ∷ [])) page
+printed-clear = on-page (line-clear blank blank-long)
+
+pub printed-dim : printed dim ≡ over (replyWith (100 ∷ 100 ∷ 100 ∷ 255 ∷ [])) page
+printed-dim = on-page (line-dim blank blank-long)
+
+pub printed-bright : printed bright ≡ over (replyWith (101 ∷ 101 ∷ 101 ∷ 255 ∷ [])) page
+printed-bright = on-page (line-bright blank blank-long)
+
+-- ---- `finish` and `feed` run that line too
+
+abbrev FinishesLine : List ℕ → Type 0
+FinishesLine pictures = lastRun fresh blank (line pictures) ≡ lineOf fresh blank (line pictures)
+
+pub finish-line : FinishesLine white × FinishesLine clear × FinishesLine dim × FinishesLine bright
+unfolding lastRun digitsOf
+finish-line = (refl, refl, refl, refl)
+
+-- the line and its line feed as one block
+abbrev FeedsLine : List ℕ → Type 0
+FeedsLine pictures = fedRun fresh blank [] (line pictures ++ 10 ∷ []) ≡ lineOf fresh blank (line pictures)
+
+pub feed-line : FeedsLine white × FeedsLine clear × FeedsLine dim × FeedsLine bright
+unfolding fedRun lineIn endsIn indexOf digitsOf digitOf
+feed-line = (refl, refl, refl, refl)

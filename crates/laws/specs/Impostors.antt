@@ -1,0 +1,122 @@
+-- Wrong displays: 01 "How firm a promise has to be", "These impostors have to break it", and "Errors we
+-- have met in such displays". Each is what a call leaves, by the call's inputs. Assumes nothing.
+use Prim.Native.Nat.{ℕ, _+_, _-_, _*_, _/_, _%_, _^_}
+use mathlib.Core.Path.{_≡_}
+use mathlib.Core.List.{List, [], _∷_, _++_}
+use lib.ListN.{take, drop}
+use lib.Dec.{eqb}
+use lib.Bits.{bitAnd}
+use Rattle.lists.specs.Choice.{pick, pickList}
+use Rattle.lists.specs.Over.{over}
+use Rattle.lists.specs.Runs.{run}
+use Rattle.lists.specs.Steps.{through}
+use Rattle.lists.specs.Tab.{each}
+use Rattle.answers.specs.Answers.{done}
+use Rattle.mix.specs.Blend.{blendOf}
+use Rattle.words.specs.Fields.{shownOf, widthOf, layerOf}
+use Rattle.paint.specs.Scene.{Scene}
+use Rattle.paint.specs.Pixel.{alphaAt, ownAt, covers, acrossOf, downOf, overAt}
+use Rattle.paint.specs.Band.{bandBy, pixelAt}
+use Rattle.paint.specs.Frame.{fillOf}
+use Rattle.paint.specs.Plan.{bandLayers}
+use Rattle.display.specs.declared.Display.{Display}
+use Rattle.display.specs.declared.Told.{Told}
+use Rattle.display.specs.State.{fresh, told, pickTold, withErrors, startOf}
+use Rattle.display.specs.Paint.{sceneWith}
+use Rattle.lines.specs.Hex.{bytesIn}
+use Rattle.lines.specs.Form.{picturePlace}
+use Rattle.lines.specs.Steps.{Midway, midway, runOf, stepsOf}
+use Rattle.lines.specs.Line.{startedOf, framedOf, replyOf, textOf}
+use Rattle.laws.specs.Small.{blank, filled, white, line, page, scene, painted, framed, hostScene, hosted, printed}
+
+-- ---- of any call
+
+-- "one that turns everything down (demand 1, "only in that case")": any answer but 0, whatever it leaves
+abbrev pub TurnsDown : ℕ → Type 0
+TurnsDown answer = answer ≡ done → ⊥
+
+-- the same of a line of a sheet: its first two digits are not 00
+abbrev pub PrintsDown : List ℕ → Type 0
+PrintsDown out = take 2 out ≡ 48 ∷ 48 ∷ [] → ⊥
+
+-- "one that gives one fixed frame" is any list of bytes, and needs no definition
+
+-- "and one that touches nothing (demand 2)": 0, and all as it was
+abbrev pub untouched : Display → Told
+untouched d = told d done
+
+-- ---- of toggle and start
+
+-- "Clearing the error word with "and not"."
+abbrev pub andNot : Display → ℕ → Told
+andNot d bits = told (withErrors d (bitAnd (d .errors) (2 ^ 32 - 1 - bits))) done
+
+-- "Stopping the frame number on a refused start."
+abbrev pub stoppedStart : Display → Told
+stoppedStart d = pickTold (eqb (startOf d .answer) done) (startOf d) (told d (startOf d .answer))
+
+-- ---- of painting
+
+-- what becomes of channel c of the pixel (x, y) by the band a..b: the document's is `pixelAt`
+abbrev pub Rule : Type 0
+Rule = Scene → ℕ → ℕ → ℕ → ℕ → ℕ → ℕ → ℕ
+
+-- a band, a frame and a line of a sheet, painted by a rule; the line is a well formed one
+abbrev pub byteBy : Rule → Scene → ℕ → ℕ → ℕ → ℕ → ℕ
+byteBy rule s a b i p =
+    pick (eqb (i % 4) 3) p (rule s (i / 4 % widthOf (s .words)) (i / 4 / widthOf (s .words)) (i % 4) a b p)
+
+abbrev pub paintedBy : Rule → Scene → ℕ → ℕ → List ℕ → List ℕ
+paintedBy rule s a b out = pickList (shownOf (s .words)) (each (byteBy rule s a b) out) out
+
+abbrev pub framedBy : Rule → Scene → List ℕ
+framedBy rule s = paintedBy rule s 0 8 (fillOf (s .words))
+
+abbrev pub repliedBy : Rule → Midway → List ℕ → List ℕ
+repliedBy rule m pictures =
+    replyOf (framedOf (startedOf (m .told)) (m .tables) pictures)
+    (framedBy rule (sceneWith (startedOf (m .told) .state) (m .tables) pictures))
+
+abbrev pub printedBy : Rule → Display → List ℕ → List ℕ → List ℕ
+printedBy rule d tables text =
+    textOf (repliedBy rule (runOf (midway (told d done) tables) (stepsOf (bytesIn text))) (drop (picturePlace (bytesIn text) + 2) (bytesIn text)))
+
+-- "one that paints the lowest layer and for the others only answers 0 (demand 2 ..)"
+abbrev pub lowest : Rule
+lowest s x y c a b under = through (overAt s x y c) (take 1 (bandLayers (s .words) a b)) under
+
+-- a layer over a pixel as `overAt` has it, with another blend
+abbrev pub overBy : (ℕ → ℕ → ℕ → ℕ) → Scene → ℕ → ℕ → ℕ → ℕ → ℕ → ℕ
+overBy blend s x y c n under =
+    pick (covers (layerOf (s .words) n) x y)
+    (blend (alphaAt s n (acrossOf (layerOf (s .words) n) x) (downOf (layerOf (s .words) n) y))
+    (ownAt s n (acrossOf (layerOf (s .words) n) x) (downOf (layerOf (s .words) n) y) c)
+    under)
+    under
+
+-- "Dividing by 256: white at alpha 255 then comes out as 254."
+abbrev pub blend256 : ℕ → ℕ → ℕ → ℕ
+blend256 a over under = (a * over + (255 - a) * under + 127) / 256
+
+abbrev pub by256 : Rule
+by256 s x y c a b under = bandBy (s .words) (overBy blend256 s x y c) a b under
+
+-- "Taking layer number for depth.": the band's ends are layer numbers, and a greater number lies on top
+abbrev pub numbered : Rule
+numbered s x y c a b under = run a (b - a) (λ n p. pick (layerOf (s .words) n .on) (overAt s x y c n p) p) under
+
+-- "Blending all layers' colours first and the background last.": the layers over nothing, and then, by
+-- whatever rule `last`, what they gave, how much of 255 they let through, and what was under them
+abbrev pub dimmed : ℕ → ℕ → ℕ → ℕ
+dimmed a over under = blendOf a 0 under
+
+abbrev pub groundLast : (ℕ → ℕ → ℕ → ℕ) → Rule
+groundLast last s x y c a b under = last (pixelAt s x y c a b 0) (bandBy (s .words) (overBy dimmed s x y c) a b 255) under
+
+-- ---- a rule that breaks the promise of each call that paints, with the white picture
+
+pub record Breaks (rule : Rule) : Type 0 where
+  pub paint : paintedBy rule (scene white) 0 8 filled ≡ painted white → ⊥
+  pub frame : framedBy rule (scene white) ≡ framed white → ⊥
+  pub host : framedBy rule (hostScene white) ≡ hosted white → ⊥
+  pub line : over (printedBy rule fresh blank (line white)) page ≡ printed white → ⊥
