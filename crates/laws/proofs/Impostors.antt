@@ -33,7 +33,7 @@ apart f ne e = ne (ap f e)
 differ : (k : ℕ) {x y : List ℕ} → (getD x k 0 ≡ getD y k 0 → ⊥) → x ≡ y → ⊥
 differ k = apart (λ (l : List ℕ). getD l k 0)
 
--- ---- one that turns everything down
+-- ---- "one that turns everything down"
 
 refused : {t u : Told} → u .answer ≡ done → TurnsDown (t .answer) → t ≡ u → ⊥
 refused accepted down e = down (ap (λ (r : Told). r .answer) e ∙ accepted)
@@ -70,7 +70,7 @@ pub line-down : (out : List ℕ) → PrintsDown out → out ≡ printed white �
 unfolding small.lineOpen over
 line-down out down e = down (ap (take 2) (e ∙ small.printed-white))
 
--- ---- one that gives one fixed frame: it is not right on both of two inputs
+-- ---- "one that gives one fixed frame": it is not right on both of two inputs
 
 -- an outcome that is the same for both
 not-both : (k : ℕ) {o x y : List ℕ} → (getD x k 0 ≡ getD y k 0 → ⊥) → o ≡ x → o ≡ y → ⊥
@@ -96,7 +96,7 @@ module _ (fixed : List ℕ) where
   unfolding small.lineOpen over
   line-fixed p q = not-both 18 (λ (z : 70 ≡ 54). omega arith) (p ∙ small.printed-white) (q ∙ small.printed-clear)
 
--- ---- one that touches nothing
+-- ---- "one that touches nothing"
 
 pub write-untouched : untouched fresh ≡ writeOf fresh 0 1 → ⊥
 write-untouched = apart (λ (t : Told). getD (t .state .pending) 0 0) (λ (z : 0 ≡ 1). omega arith)
@@ -154,9 +154,12 @@ pub rule-is : (s : Scene) (a b : ℕ) (out : List ℕ) → paintedBy pixelAt s a
 unfolding bandOf bandByte
 rule-is s a b out = refl
 
+-- the line with the white picture, with any tables of the right length
+abbrev Prints : Rule → List ℕ → Type 0
+Prints rule text = (t : List ℕ) → length t ≡ tablesLen → printedBy rule fresh t (line white) ≡ text
+
 -- with a frame x and a text y that are not the promised ones
-breaks : (rule : Rule) {x y : List ℕ} → framedBy rule (scene white) ≡ x → (x ≡ 255 ∷ 255 ∷ 255 ∷ 255 ∷ [] → ⊥)
-    → ((t : List ℕ) → length t ≡ tablesLen → printedBy rule fresh t (line white) ≡ y)
+breaks : (rule : Rule) {x y : List ℕ} → framedBy rule (scene white) ≡ x → (x ≡ 255 ∷ 255 ∷ 255 ∷ 255 ∷ [] → ⊥) → Prints rule y
     → (over y page ≡ over (small.replyWith (255 ∷ 255 ∷ 255 ∷ 255 ∷ [])) page → ⊥)
     → Breaks rule
 unfolding small.frameOpen
@@ -173,7 +176,7 @@ lowest-frame : framedBy lowest (scene white) ≡ 10 ∷ 20 ∷ 30 ∷ 255 ∷ []
 unfolding small.frameOpen bandLayers orderOf layersBelow layersAt keep through
 lowest-frame = refl
 
-lowest-text : (t : List ℕ) → length t ≡ tablesLen → printedBy lowest fresh t (line white) ≡ small.replyWith (10 ∷ 20 ∷ 30 ∷ 255 ∷ [])
+lowest-text : Prints lowest (small.replyWith (10 ∷ 20 ∷ 30 ∷ 255 ∷ []))
 unfolding small.lineOpen bandLayers orderOf layersBelow layersAt keep through
 lowest-text t long = rw (eq-eqb _ _ long)
 
@@ -187,7 +190,7 @@ by256-frame : framedBy by256 (scene white) ≡ 254 ∷ 254 ∷ 254 ∷ 255 ∷ [
 unfolding small.frameOpen
 by256-frame = refl
 
-by256-text : (t : List ℕ) → length t ≡ tablesLen → printedBy by256 fresh t (line white) ≡ small.replyWith (254 ∷ 254 ∷ 254 ∷ 255 ∷ [])
+by256-text : Prints by256 (small.replyWith (254 ∷ 254 ∷ 254 ∷ 255 ∷ []))
 unfolding small.lineOpen
 by256-text t long = rw (eq-eqb _ _ long)
 
@@ -201,7 +204,7 @@ numbered-frame : framedBy numbered (scene white) ≡ 10 ∷ 20 ∷ 30 ∷ 255 �
 unfolding small.frameOpen
 numbered-frame = refl
 
-numbered-text : (t : List ℕ) → length t ≡ tablesLen → printedBy numbered fresh t (line white) ≡ small.replyWith (10 ∷ 20 ∷ 30 ∷ 255 ∷ [])
+numbered-text : Prints numbered (small.replyWith (10 ∷ 20 ∷ 30 ∷ 255 ∷ []))
 unfolding small.lineOpen
 numbered-text t long = rw (eq-eqb _ _ long)
 
@@ -210,32 +213,45 @@ unfolding small.lineOpen over
 numbered-breaks =
     breaks numbered numbered-frame (differ 0 (λ (z : 10 ≡ 255). omega arith)) numbered-text (differ 18 (λ (z : 48 ≡ 70). omega arith))
 
--- ---- the background last: it makes one frame of two faint colours, and the promise makes two
+-- ---- the background last: it makes one frame of a dim and a bright faint colour, and is not right on both
 
 module _ (last : ℕ → ℕ → ℕ → ℕ) where
-  one-frame : framedBy (groundLast last) (scene dim) ≡ framedBy (groundLast last) (scene bright)
+  abbrev rule : Rule
+  rule = groundLast last
+
+  one-frame : framedBy rule (scene bright) ≡ framedBy rule (scene dim)
   unfolding small.frameOpen
   one-frame = refl
 
-  one-text : (t : List ℕ) → length t ≡ tablesLen → printedBy (groundLast last) fresh t (line dim) ≡ printedBy (groundLast last) fresh t (line bright)
+  one-text : (t : List ℕ) → length t ≡ tablesLen → printedBy rule fresh t (line bright) ≡ printedBy rule fresh t (line dim)
   unfolding small.lineOpen
   one-text t long = rw (eq-eqb _ _ long)
 
-  -- right on the dim colour and on the bright one
-  pub paint-ground-last : paintedBy (groundLast last) (scene dim) 0 8 filled ≡ painted dim → paintedBy (groundLast last) (scene bright) 0 8 filled ≡ painted bright → ⊥
+  of-host : (pictures : List ℕ) → length pictures ≡ 8 → framedBy rule (scene pictures) ≡ framedBy rule (hostScene pictures)
+  of-host pictures two = ap (framedBy rule) (sym (small.host-scene pictures two))
+
+  pub paint-ground-last : paintedBy rule (scene dim) 0 8 filled ≡ painted dim
+      → paintedBy rule (scene bright) 0 8 filled ≡ painted bright
+      → ⊥
   unfolding small.frameOpen
   paint-ground-last p q =
-      not-both 0 (λ (z : 100 ≡ 101). omega arith) (sym one-frame ∙ p ∙ small.dim-promised .paint) (q ∙ small.bright-promised .paint)
+      not-both 0 (λ (z : 100 ≡ 101). omega arith) (one-frame ∙ p ∙ small.dim-promised .paint) (q ∙ small.bright-promised .paint)
 
-  pub frame-ground-last : framedBy (groundLast last) (scene dim) ≡ framed dim → framedBy (groundLast last) (scene bright) ≡ framed bright → ⊥
+  pub frame-ground-last : framedBy rule (scene dim) ≡ framed dim → framedBy rule (scene bright) ≡ framed bright → ⊥
   frame-ground-last p q =
-      not-both 0 (λ (z : 100 ≡ 101). omega arith) (sym one-frame ∙ p ∙ small.dim-promised .frame) (q ∙ small.bright-promised .frame)
+      not-both 0 (λ (z : 100 ≡ 101). omega arith) (one-frame ∙ p ∙ small.dim-promised .frame) (q ∙ small.bright-promised .frame)
 
-  pub host-ground-last : framedBy (groundLast last) (hostScene dim) ≡ hosted dim → framedBy (groundLast last) (hostScene bright) ≡ hosted bright → ⊥
+  pub host-ground-last : framedBy rule (hostScene dim) ≡ hosted dim → framedBy rule (hostScene bright) ≡ hosted bright → ⊥
   host-ground-last p q =
-      not-both 0 (λ (z : 100 ≡ 101). omega arith) (sym one-frame ∙ ap (framedBy (groundLast last)) (sym (small.host-scene dim refl)) ∙ p ∙ small.dim-promised .host) (ap (framedBy (groundLast last)) (sym (small.host-scene bright refl)) ∙ q ∙ small.bright-promised .host)
+      not-both 0 (λ (z : 100 ≡ 101). omega arith)
+      (one-frame ∙ of-host dim refl ∙ p ∙ small.dim-promised .host)
+      (of-host bright refl ∙ q ∙ small.bright-promised .host)
 
-  pub line-ground-last : over (printedBy (groundLast last) fresh blank (line dim)) page ≡ printed dim → over (printedBy (groundLast last) fresh blank (line bright)) page ≡ printed bright → ⊥
+  pub line-ground-last : over (printedBy rule fresh blank (line dim)) page ≡ printed dim
+      → over (printedBy rule fresh blank (line bright)) page ≡ printed bright
+      → ⊥
   unfolding small.lineOpen over
   line-ground-last p q =
-      not-both 19 (λ (z : 52 ≡ 53). omega arith) (small.on-page (sym (one-text blank small.blank-long)) ∙ p ∙ small.printed-dim) (q ∙ small.printed-bright)
+      not-both 19 (λ (z : 52 ≡ 53). omega arith)
+      (small.on-page (one-text blank small.blank-long) ∙ p ∙ small.printed-dim)
+      (q ∙ small.printed-bright)

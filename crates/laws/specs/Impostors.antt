@@ -79,7 +79,8 @@ repliedBy rule m pictures =
 
 abbrev pub printedBy : Rule → Display → List ℕ → List ℕ → List ℕ
 printedBy rule d tables text =
-    textOf (repliedBy rule (runOf (midway (told d done) tables) (stepsOf (bytesIn text))) (drop (picturePlace (bytesIn text) + 2) (bytesIn text)))
+    let b = bytesIn text in
+    textOf (repliedBy rule (runOf (midway (told d done) tables) (stepsOf b)) (drop (picturePlace b + 2) b))
 
 -- "one that paints the lowest layer and for the others only answers 0 (demand 2 ..)"
 abbrev pub lowest : Rule

@@ -22,5 +22,7 @@ finish-unique κs i a b e f p q = (same (p .0) (q .0), same (p .1 .0) (q .1 .0),
 
 -- tables, text and output are the second, the third and the sixth
 pub feed-unique : (κs i a b e f : _) → feed.Post κs i a e → feed.Post κs i b f
-    → (a ≡ b) × (now (e .1 .0) ≡ now (f .1 .0)) × (now (e .1 .1 .0) ≡ now (f .1 .1 .0)) × (now (e .1 .1 .1 .1 .1 .0) ≡ now (f .1 .1 .1 .1 .1 .0))
-feed-unique κs i a b e f p q = (same (p .0) (q .0), same (p .1 .0) (q .1 .0), same (p .1 .1 .0) (q .1 .1 .0), same (p .1 .1 .1 .0) (q .1 .1 .1 .0))
+    → (a ≡ b) × (now (e .1 .0) ≡ now (f .1 .0)) × (now (e .1 .1 .0) ≡ now (f .1 .1 .0))
+    × (now (e .1 .1 .1 .1 .1 .0) ≡ now (f .1 .1 .1 .1 .1 .0))
+feed-unique κs i a b e f p q =
+    (same (p .0) (q .0), same (p .1 .0) (q .1 .0), same (p .1 .1 .0) (q .1 .1 .0), same (p .1 .1 .1 .0) (q .1 .1 .1 .0))
