@@ -13,3 +13,5 @@ pub mod States
 pub mod Small
 pub mod Impostors
 pub mod Document
+pub mod Refusals
+pub mod Rows
