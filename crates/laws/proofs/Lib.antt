@@ -14,4 +14,5 @@ pub mod Small
 pub mod Impostors
 pub mod Document
 pub mod Refusals
+pub mod CheckRows
 pub mod Rows

@@ -65,6 +65,7 @@ over-zero nz e z = eqb-false _ 0 nz (sym e ∙ z)
 abbrev pub Misses : ℕ → ℕ → Type 0
 Misses x r = x ≡ r → x ≡ 0
 
+-- a refusal gives its own number alone
 pub other : {P : Type 0} {x k : ℕ} (r : ℕ) → eqb k r ≡ false → Tells x k P → Misses x r
 other r ne (given e p) q = absurd (eqb-false _ _ ne (sym e ∙ q))
 other r ne (passed e n) q = e
@@ -106,6 +107,7 @@ module _ {P : Type 0} {x k : ℕ} (nz : eqb k 0 ≡ false) where
   passed-when (given e p) = (λ z. absurd (over-zero nz e z), λ n. absurd (n p))
   passed-when (passed e n) = (λ z. n, λ n. e)
 
+  -- the refusal's own number, where nothing after it gives that; and a number of what comes after it
   pub own : (b : ℕ) → Tells x k P → Misses b k → (orElse x b ≡ k) ↔ P
   own b t m = or-first x b k nz m (given-when t)
 
