@@ -15,6 +15,7 @@ use Rattle.lists.proofs.Choice.{split, same-or}
 use Rattle.words.specs.Fields.{updateOf, widthOf, heightOf}
 use Rattle.words.specs.Check.{checkOf}
 use Rattle.words.specs.Pictures.{picturesLen}
+use Rattle.tables.specs.Geometry.{tablesLen}
 use Rattle.tables.specs.Selection.{controllerOf, firstByteOf, endOf, namedBy}
 use Rattle.paint.specs.Band.{bandOf, errorsOf}
 use Rattle.paint.specs.Frame.{bandRefusal, sizeRefusal, outputRefusal, tablesRefusal, picturesRefusal, fillRefusal, paintRefusal, fillOf, frameOf}
@@ -55,7 +56,7 @@ WrongOutput w out = ¬ (length out ≡ 4 * (widthOf w * heightOf w))
 
 -- 6: "tables not 29,696 bytes"
 abbrev pub WrongTables : List ℕ → Type 0
-WrongTables tables = ¬ (length tables ≡ 29696)
+WrongTables tables = ¬ (length tables ≡ tablesLen)
 
 -- 14: "pictures of the wrong total length"
 abbrev pub WrongPictures : List ℕ → List ℕ → Type 0
@@ -211,7 +212,7 @@ module _ (w : List ℕ) where
   tells-14 pictures = refuses-but _ 14 (eqb-says (length pictures) (picturesLen w))
 
 tells-6 : (tables : List ℕ) → Tells (tablesRefusal (length tables)) 6 (WrongTables tables)
-tells-6 tables = refuses-but _ 6 (eqb-says (length tables) 29696)
+tells-6 tables = refuses-but _ 6 (eqb-says (length tables) tablesLen)
 
 module _ (d : Display) (out : List ℕ) where
   -- a refusal: "all unchanged"
