@@ -1,0 +1,1 @@
+-- The laws that proofs of this crate cite. Assumes nothing.

@@ -1,0 +1,79 @@
+// The buffers that are lent, and ways to fill them. Arrays are made by functions that name their
+// length, so that no proof writes their zeros out.
+ghost use mathlib.Core.Path.{_≡_};
+ghost use lib.ListN.{length};
+
+pub fn tables() -> [u8; 29696]
+    ensures { λ r. ⌜ 29696 ≡ length r ⌝ }
+{
+    [0; 29696]
+}
+
+// Sixteen bytes more, so that too much can be lent.
+pub fn roomy_tables() -> [u8; 29712]
+    ensures { λ r. ⌜ 29712 ≡ length r ⌝ }
+{
+    [0; 29712]
+}
+
+// A screen of 1,024 pixels or its pictures, and sixteen bytes more.
+pub fn pixels() -> [u8; 4112]
+    ensures { λ r. ⌜ 4112 ≡ length r ⌝ }
+{
+    [0; 4112]
+}
+
+// An alpha, of which three in four are 0 or 255: there blending takes its own ways.
+fn alpha_of(number: u32) -> u8 {
+    let part = number / 4194304;
+    if part < 384 {
+        return 0;
+    }
+    if part < 640 {
+        return (part - 384) as u8;
+    }
+    255
+}
+
+fn byte_of(number: u32, is_alpha: bool) -> u8 {
+    if is_alpha {
+        return alpha_of(number);
+    }
+    (number / 16777216) as u8
+}
+
+// Each byte is the highest of a number that goes up by `step` from byte to byte, modulo 2^32: all
+// alike for step 0, a slope for a small one, a mixture for a large odd one. With `pixels` each
+// fourth byte is an alpha.
+pub fn fill(buffer: &mut [u8], first: u32, step: u32, pixels: bool) {
+    let mut number = first;
+    let mut i = 0;
+    while i < buffer.len() {
+        buffer[i] = byte_of(number, pixels && i % 4 == 3);
+        number = std::num::wrapping_add_u32(number, step);
+        i += 1;
+    }
+}
+
+fn set_byte(buffer: &mut [u8], at: usize, byte: u8) {
+    if at < buffer.len() {
+        buffer[at] = byte;
+    }
+}
+
+// A little-endian word at a place, as much of it as lies in the buffer.
+pub fn set_word(buffer: &mut [u8], at: u32, word: u32) {
+    let first = at as usize;
+    set_byte(buffer, first, (word % 256) as u8);
+    set_byte(buffer, first + 1, (word / 256 % 256) as u8);
+    set_byte(buffer, first + 2, (word / 65536 % 256) as u8);
+    set_byte(buffer, first + 3, (word / 16777216) as u8);
+}
+
+// The byte at a place, 0 past the end.
+pub fn byte_at(buffer: &[u8], at: usize) -> u8 {
+    if at < buffer.len() {
+        return buffer[at];
+    }
+    0
+}

@@ -1,0 +1,159 @@
+// The display of a script with what is lent to it, and what its records do with a and b:
+//
+//     N  a fresh display, zeros in the buffers, whole tables and nothing else lent
+//     L  lend b bytes of the tables (a is 0), the pictures (1) or the output (any other)
+//     K  fill the tables, I the pictures, D the output, by a pattern from a in steps of b
+//     Q  store the word b at byte a of the tables
+//     W  write b to register a        S  select a         T  toggle a         G  start
+//     P  put byte a, and b times more (up to 1,023)       F  fill
+//     B  paint the band a..b          R  paint a whole frame
+use crate::buffers;
+use crate::record::Record;
+use display::Display;
+use display::Told;
+use tables::TABLES_LEN;
+
+// How many bytes are lent, counted from a buffer's front; more than it has is all of it.
+pub struct Lent {
+    pub tables: u32,
+    pub pictures: u32,
+    pub out: u32,
+}
+
+pub struct Stage {
+    pub state: Display,
+    pub answer: u8,
+    pub lent: Lent,
+}
+
+// A fresh display with whole tables and nothing else lent.
+pub fn fresh() -> Stage {
+    Stage {
+        state: Display::new(),
+        answer: 0,
+        lent: Lent {
+            tables: TABLES_LEN as u32,
+            pictures: 0,
+            out: 0,
+        },
+    }
+}
+
+fn put(state: Display, tables: &mut [u8], lent: Lent, byte: u8) -> Told {
+    let n = io::count(lent.tables as isize, tables);
+    state.put(&mut tables[..n], byte)
+}
+
+// A byte put once and then up to 1,023 times more; the last answer.
+fn put_often(state: Display, tables: &mut [u8], lent: Lent, byte: u8, more: u32) -> Told {
+    let mut told = put(state, tables, lent, byte);
+    let mut left = more % 1024;
+    while left > 0 {
+        told = put(told.state, tables, lent, byte);
+        left -= 1;
+    }
+    told
+}
+
+fn fill(state: Display, out: &mut [u8], lent: Lent) -> Told {
+    let n = io::count(lent.out as isize, out);
+    state.fill(&mut out[..n])
+}
+
+fn paint(
+    state: Display,
+    low: u32,
+    high: u32,
+    tables: &[u8],
+    pictures: &[u8],
+    out: &mut [u8],
+    lent: Lent,
+) -> Told {
+    let t = io::count(lent.tables as isize, tables);
+    let p = io::count(lent.pictures as isize, pictures);
+    let n = io::count(lent.out as isize, out);
+    state.paint(low, high, &tables[..t], &pictures[..p], &mut out[..n])
+}
+
+fn frame(state: Display, tables: &[u8], pictures: &[u8], out: &mut [u8], lent: Lent) -> Told {
+    let t = io::count(lent.tables as isize, tables);
+    let p = io::count(lent.pictures as isize, pictures);
+    let n = io::count(lent.out as isize, out);
+    state.frame(&tables[..t], &pictures[..p], &mut out[..n])
+}
+
+// What is lent after a record.
+fn lend(mut lent: Lent, r: Record) -> Lent {
+    let buffer = r.a;
+    if r.letter != b'L' {
+        return lent;
+    }
+    match buffer {
+        0 => lent.tables = r.b,
+        1 => lent.pictures = r.b,
+        _ => lent.out = r.b,
+    }
+    lent
+}
+
+// The records that change the buffers' bytes.
+fn change(r: Record, tables: &mut [u8], pictures: &mut [u8], out: &mut [u8]) {
+    let letter = r.letter;
+    match letter {
+        b'K' => buffers::fill(tables, r.a, r.b, false),
+        b'I' => buffers::fill(pictures, r.a, r.b, true),
+        b'D' => buffers::fill(out, r.a, r.b, false),
+        b'Q' => buffers::set_word(tables, r.a, r.b),
+        _ => {}
+    }
+}
+
+// The records that call the display; for others the state as it is, and 0.
+fn call(
+    state: Display,
+    lent: Lent,
+    r: Record,
+    tables: &mut [u8],
+    pictures: &[u8],
+    out: &mut [u8],
+) -> Told {
+    let letter = r.letter;
+    match letter {
+        b'W' => state.write(r.a, r.b),
+        b'S' => state.select(r.a),
+        b'T' => state.toggle(r.a),
+        b'G' => state.start(),
+        b'P' => put_often(state, tables, lent, (r.a % 256) as u8, r.b),
+        b'F' => fill(state, out, lent),
+        b'B' => paint(state, r.a, r.b, tables, pictures, out, lent),
+        b'R' => frame(state, tables, pictures, out, lent),
+        _ => Told {
+            state: state,
+            answer: 0,
+        },
+    }
+}
+
+// A fresh display, and zeros in every buffer.
+fn renew(tables: &mut [u8], pictures: &mut [u8], out: &mut [u8]) -> Stage {
+    buffers::fill(tables, 0, 0, false);
+    buffers::fill(pictures, 0, 0, false);
+    buffers::fill(out, 0, 0, false);
+    fresh()
+}
+
+// The stage after a record. A letter that means nothing changes nothing.
+pub fn play(s: Stage, r: Record, tables: &mut [u8], pictures: &mut [u8], out: &mut [u8]) -> Stage {
+    if r.letter == b'N' {
+        return renew(tables, pictures, out);
+    }
+    change(r, tables, pictures, out);
+    let lent = lend(s.lent, r);
+    let told = call(s.state, lent, r, tables, pictures, out);
+    let state = told.state;
+    Stage {
+        state: state,
+        answer: told.answer,
+        lent: lent,
+    }
+}
