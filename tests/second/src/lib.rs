@@ -3,6 +3,8 @@
 //! that document.
 
 pub mod answers;
+pub mod bench;
+pub mod beside;
 pub mod cases;
 pub mod display;
 pub mod draw;
@@ -10,6 +12,8 @@ pub mod fade;
 pub mod host;
 pub mod paint;
 pub mod rng;
+pub mod script;
 pub mod sheet;
+pub mod sums;
 pub mod tables;
 pub mod words;

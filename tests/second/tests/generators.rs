@@ -2,9 +2,12 @@
 //! counts.
 
 use second::answers::*;
-use second::cases::{gen_calls, gen_host, gen_sheet, Stage};
+use second::cases::{gate_script, gen_calls, gen_host, gen_sheet};
 use second::host::host_frame;
+use second::script::{Call, Stage, BAND, CALLS, FILL, FRAME, START};
 use second::sheet::print_sheet;
+use second::tables::TABLES_LEN;
+use second::words::LAYERS;
 use std::collections::{BTreeMap, BTreeSet};
 
 const SHEETS: u64 = 50;
@@ -65,17 +68,143 @@ fn host_cases_reach_every_answer() {
     assert_eq!(counts.into_keys().collect::<BTreeSet<u32>>(), reachable);
 }
 
-#[test]
-fn scripts_reach_every_answer() {
-    let mut counts = BTreeMap::new();
-    for seed in 0..60 {
-        let mut stage = Stage::new();
-        for call in gen_calls(seed, 1_000) {
-            *counts.entry(stage.play(&call)).or_insert(0) += 1;
+/// What a record of a script does, by names.
+fn kinds(before: &Stage, call: Call, answer: u32, after: &Stage) -> Vec<String> {
+    let letter = call.letter as char;
+    let mut kinds = vec![format!("{letter}")];
+    if CALLS.contains(&call.letter) {
+        kinds.push(format!("answer {answer}"));
+    }
+    let lent = &before.out[..before.lent.out];
+    let painted = answer == DONE && [FILL, BAND, FRAME].contains(&call.letter);
+    if painted && lent.chunks(4).any(|pixel| pixel[3] != 255) {
+        kinds.push(format!("{letter} over a dirty buffer"));
+    }
+    if painted && !before.display.active().display_on() {
+        kinds.push(format!("{letter} with the display off"));
+    }
+    if painted && before.out != after.out {
+        kinds.push(format!("{letter} changes the output"));
+    }
+    if painted && call.letter != FILL && (0..LAYERS).any(|n| fades(before, n)) {
+        kinds.push(format!("{letter} in a fade"));
+    }
+    let errors = (before.display.errors(), after.display.errors());
+    kinds.extend(match call.letter {
+        BAND => vec![band_kind(call.a, call.b, answer)],
+        START if answer != DONE && before.display.active().output_len() > 0 => {
+            vec!["start refused after a frame".into()]
+        }
+        _ => Vec::new(),
+    });
+    kinds.extend(wrong_lengths(before, call, answer));
+    if errors.0 & !errors.1 != 0 {
+        kinds.push(format!("{letter} clears error bits"));
+    }
+    if errors.1 & !errors.0 != 0 {
+        kinds.push(format!("{letter} sets error bits"));
+    }
+    kinds
+}
+
+/// Whether a layer is seen with an alpha on the way to its target.
+fn fades(stage: &Stage, n: usize) -> bool {
+    let layer = stage.display.active().layer(n);
+    let alpha = layer.fade.at(stage.display.frame_number());
+    let on_the_way = alpha != layer.fade.value && alpha != layer.fade.target;
+    stage.display.active().display_on() && layer.enabled && layer.global_alpha && on_the_way
+}
+
+fn band_kind(low: u32, high: u32, answer: u32) -> String {
+    match (low, high) {
+        (_, 9..) => "band past 8".into(),
+        _ if low > high => "band upside down".into(),
+        _ if answer != DONE => "band refused for another reason".into(),
+        _ if low == high => "empty band".into(),
+        (0, 8) => "whole band".into(),
+        (0, _) => "lower band".into(),
+        (_, 8) => "upper band".into(),
+        _ => "middle band".into(),
+    }
+}
+
+/// Whether a buffer that a refused call was lent is too short or too long.
+fn wrong_lengths(before: &Stage, call: Call, answer: u32) -> Option<String> {
+    let active = before.display.active();
+    let (lent, right) = match answer {
+        WRONG_TABLES => (before.lent.tables, TABLES_LEN),
+        WRONG_OUTPUT => (before.lent.out, active.output_len() as usize),
+        WRONG_PICTURES => (before.lent.pictures, active.pictures_len() as usize),
+        _ => return None,
+    };
+    let wrong = if lent < right { "too short" } else { "too long" };
+    Some(format!("{} answers {answer}, {wrong}", call.letter as char))
+}
+
+/// How often each kind comes in a script.
+fn count_kinds(calls: &[Call], counts: &mut BTreeMap<String, usize>) {
+    let mut stage = Stage::new();
+    for &call in calls {
+        let before = stage.clone();
+        let answer = stage.play(call);
+        for kind in kinds(&before, call, answer, &stage) {
+            *counts.entry(kind).or_insert(0) += 1;
         }
     }
-    show("calls of scripts by answer", &counts);
-    assert_eq!(counts.into_keys().collect::<Vec<u32>>(), (DONE..=WRONG_BAND).collect::<Vec<u32>>());
+}
+
+/// The kinds that every script of the gate's length has to have, named as `kinds` names them.
+fn wanted_kinds() -> Vec<String> {
+    let mut wanted: Vec<String> = (DONE..=WRONG_BAND).map(|n| format!("answer {n}")).collect();
+    wanted.extend(CALLS.map(|letter| (letter as char).to_string()));
+    for letter in ["F", "B", "R"] {
+        wanted.push(format!("{letter} over a dirty buffer"));
+        wanted.push(format!("{letter} changes the output"));
+        wanted.push(format!("{letter} with the display off"));
+    }
+    let others = [
+        "band past 8",
+        "band upside down",
+        "empty band",
+        "whole band",
+        "lower band",
+        "upper band",
+        "middle band",
+        "start refused after a frame",
+        "T sets error bits",
+        "T clears error bits",
+        "B in a fade",
+        "R in a fade",
+        "B sets error bits",
+        "R sets error bits",
+        "P sets error bits",
+    ];
+    wanted.extend(others.map(String::from));
+    wanted
+}
+
+#[test]
+fn scripts_reach_every_kind() {
+    let mut counts = BTreeMap::new();
+    for seed in 0..60 {
+        count_kinds(&gen_calls(seed, 1_000), &mut counts);
+    }
+    show("records of scripts by kind", &counts);
+    let calls = ["P answers 6", "F answers 13", "B answers 13", "B answers 6", "B answers 14"];
+    let lengths = calls.map(|call| [format!("{call}, too short"), format!("{call}, too long")]);
+    for kind in wanted_kinds().into_iter().chain(lengths.concat()) {
+        assert!(counts.contains_key(&kind), "{kind} never came");
+    }
+}
+
+#[test]
+fn the_script_of_the_gate_has_every_kind() {
+    let mut counts = BTreeMap::new();
+    count_kinds(&gate_script(), &mut counts);
+    show("records of the gate's script by kind", &counts);
+    for kind in wanted_kinds() {
+        assert!(counts.contains_key(&kind), "{kind} never came");
+    }
 }
 
 /// A case's number is its seed: the same seed gives the same case, another one another.

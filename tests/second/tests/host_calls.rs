@@ -5,13 +5,12 @@
 //!   SPOONWING_CALLS   how many generated calls to compare, 4,000 unless set
 //!   SPOONWING_SEED    compares the call of this one seed only, aloud
 
+use second::beside::{number, program};
 use second::cases::{gen_host, word_images, HostCase};
 use second::host::host_frame;
 use second::tables::TABLES_LEN;
 use std::collections::BTreeMap;
-use std::env;
 use std::io::{Read, Write};
-use std::path::Path;
 use std::process::{Child, Command, Stdio};
 
 /// The C host, which answers one call after another.
@@ -21,8 +20,7 @@ struct Host {
 
 impl Host {
     fn start() -> Host {
-        let set = env::var_os("SPOONWING_HOST").unwrap_or("../../tools/c-host".into());
-        let program = Path::new(env!("CARGO_MANIFEST_DIR")).join(set);
+        let program = program("SPOONWING_HOST", "../../tools/c-host");
         let child = Command::new(&program)
             .stdin(Stdio::piped())
             .stdout(Stdio::piped())
@@ -69,11 +67,6 @@ fn compare(host: &mut Host, case: &HostCase) -> Result<u32, String> {
         }
         None => Ok(answer),
     }
-}
-
-fn number(name: &str) -> Option<u64> {
-    let text = env::var(name).ok()?;
-    Some(text.parse().unwrap_or_else(|_| panic!("{name} is not a number: {text}")))
 }
 
 #[test]

@@ -4,13 +4,10 @@
 //!   SPOONWING_LINES   how many generated lines to compare, 2,000 unless set
 //!   SPOONWING_SEED    compares the sheet of this one seed only, aloud
 
+use second::beside::{fewer, lines, number, program, run};
 use second::cases::{byte_sheet, drawing_sheet, gen_sheet, line_text, number_sheet, word_sheet};
 use second::sheet::{print_sheet, Line};
-use std::env;
-use std::io::Write;
-use std::path::{Path, PathBuf};
-use std::process::{Command, Stdio};
-use std::thread;
+use std::path::Path;
 
 const LINES_A_SHEET: usize = 40;
 
@@ -29,41 +26,6 @@ const FIXED: [(&str, &[u8]); 11] = [
     ("a load of no bytes into an active bank", b"010000000103000000000000\n0100000100000000\n"),
 ];
 
-fn number(name: &str) -> Option<u64> {
-    env::var(name)
-        .ok()
-        .map(|text| text.parse().unwrap_or_else(|_| panic!("{name} is not a number: {text}")))
-}
-
-fn program() -> PathBuf {
-    let set = env::var_os("SPOONWING_SHEET").unwrap_or("../../target/bin/sheet".into());
-    Path::new(env!("CARGO_MANIFEST_DIR")).join(set)
-}
-
-/// What a program prints for a sheet. Its input is written beside the reading of its output, since
-/// either pipe may fill up.
-fn run(program: &Path, sheet: &[u8]) -> Vec<u8> {
-    let mut child = Command::new(program)
-        .stdin(Stdio::piped())
-        .stdout(Stdio::piped())
-        .spawn()
-        .unwrap_or_else(|error| panic!("{} does not run: {error}", program.display()));
-    let mut input = child.stdin.take().expect("it is piped");
-    let sheet = sheet.to_vec();
-    // A program that stops reading shows itself by its output, so a broken pipe is no failure of
-    // its own.
-    let writer = thread::spawn(move || drop(input.write_all(&sheet)));
-    let output = child.wait_with_output().expect("it was started");
-    writer.join().expect("writing does not panic");
-    let mut printed = output.stdout;
-    if !output.status.success() {
-        // It counts as a difference like any other, so that a sheet which ends the program is made
-        // small too.
-        printed.extend(format!("({})\n", output.status).into_bytes());
-    }
-    printed
-}
-
 /// Compares one sheet; a difference is told with the first line that differs and a smaller sheet
 /// that differs too.
 fn compare(name: &str, sheet: &[u8], other: &dyn Fn(&[u8]) -> Vec<u8>) -> Result<(), String> {
@@ -81,7 +43,7 @@ fn compare(name: &str, sheet: &[u8], other: &dyn Fn(&[u8]) -> Vec<u8>) -> Result
     // What follows the first difference is seldom needed to show it.
     let up_to_it: Vec<Vec<u8>> = lines(sheet).into_iter().take(first + 1).collect();
     let needed = if differs(&up_to_it) { up_to_it } else { lines(sheet) };
-    let small = with_lighter_lines(with_fewer_lines(needed, &differs), &differs);
+    let small = with_lighter_lines(fewer(needed, &differs), &differs);
     let told = [
         format!("{name} differs at line {} of {}", first + 1, ours.len()),
         format!("it reads  {}", shown(&lines(sheet))),
@@ -93,30 +55,6 @@ fn compare(name: &str, sheet: &[u8], other: &dyn Fn(&[u8]) -> Vec<u8>) -> Result
         format!("it prints for it\n{}", String::from_utf8_lossy(&other(&small.concat()))),
     ];
     Err(told.join("\n"))
-}
-
-/// The lines of a text, each with its line feed; the last may have none.
-fn lines(text: &[u8]) -> Vec<Vec<u8>> {
-    text.split_inclusive(|&byte| byte == b'\n').map(<[u8]>::to_vec).collect()
-}
-
-/// Drops runs of lines, long runs first, as long as the sheet still differs.
-fn with_fewer_lines(mut lines: Vec<Vec<u8>>, differs: &dyn Fn(&[Vec<u8>]) -> bool) -> Vec<Vec<u8>> {
-    let mut run = lines.len() / 2;
-    while run > 0 {
-        let mut at = 0;
-        while at + run <= lines.len() {
-            let mut fewer = lines.clone();
-            fewer.drain(at..at + run);
-            if differs(&fewer) {
-                lines = fewer;
-            } else {
-                at += 1;
-            }
-        }
-        run /= 2;
-    }
-    lines
 }
 
 /// Drops single loads and writes of the well formed lines, as long as the sheet still differs.
@@ -151,9 +89,10 @@ fn compare_generated(seed: u64, other: &dyn Fn(&[u8]) -> Vec<u8>) -> Result<(), 
 
 #[test]
 fn the_program_prints_the_fixed_sheets() {
-    let program = program();
+    let program = program("SPOONWING_SHEET", "../../target/bin/sheet");
     for (name, sheet) in FIXED {
-        compare(name, sheet, &|sheet| run(&program, sheet)).unwrap_or_else(|told| panic!("{told}"));
+        compare(name, sheet, &|sheet| run(&program, &[], sheet))
+            .unwrap_or_else(|told| panic!("{told}"));
     }
 }
 
@@ -161,22 +100,22 @@ fn the_program_prints_the_fixed_sheets() {
 /// byte in place of a digit, every character, opcode and weight.
 #[test]
 fn the_program_prints_the_sweeps() {
-    let program = program();
+    let program = program("SPOONWING_SHEET", "../../target/bin/sheet");
     for (name, sheet) in [
         ("the sheet of words", word_sheet()),
         ("the sheet of numbers", number_sheet()),
         ("the sheet of bytes", byte_sheet()),
         ("the sheet of drawings", drawing_sheet()),
     ] {
-        compare(name, &sheet, &|sheet| run(&program, sheet))
+        compare(name, &sheet, &|sheet| run(&program, &[], sheet))
             .unwrap_or_else(|told| panic!("{told}"));
     }
 }
 
 #[test]
 fn the_program_prints_the_generated_sheets() {
-    let program = program();
-    let other = |sheet: &[u8]| run(&program, sheet);
+    let program = program("SPOONWING_SHEET", "../../target/bin/sheet");
+    let other = |sheet: &[u8]| run(&program, &[], sheet);
     let lines = number("SPOONWING_LINES").unwrap_or(2_000);
     let mut seeds = 0..lines.div_ceil(LINES_A_SHEET as u64);
     if let Some(seed) = number("SPOONWING_SEED") {
@@ -195,7 +134,7 @@ fn the_program_prints_the_generated_sheets() {
 fn our_own_program_agrees() {
     let own = Path::new(env!("CARGO_BIN_EXE_second_sheet"));
     for (name, sheet) in FIXED {
-        compare(name, sheet, &|sheet| run(own, sheet)).unwrap_or_else(|told| panic!("{told}"));
+        compare(name, sheet, &|sheet| run(own, &[], sheet)).unwrap_or_else(|told| panic!("{told}"));
     }
 }
 

@@ -1,88 +1,48 @@
-//! Scripts of calls on one display (01 "Answers by number"), and the stage on which a script is
-//! played.
+//! Scripts of calls on one display (01 "Answers by number"), and the script that the gate runs.
 
 use crate::answers::DONE;
 use crate::cases::banks;
 use crate::cases::scene::{nudge, scene, spoil, Room};
-use crate::display::Display;
 use crate::rng::Rng;
+use crate::script::*;
 use crate::tables::{Bank, Kind, TABLES_LEN};
 use crate::words::{Words, LAYERS, WORDS};
 
-/// The buffers of a stage are longer than any right length, so that a call can be lent too much.
-const TABLES_ROOM: usize = TABLES_LEN + 16;
-const OUT_ROOM: usize = 4_096 + 16;
+/// The pixels that frame layers may bring together.
+const FRAME_PIXELS: i64 = 900;
 
-/// One call. A length says how many of the stage's first bytes are lent.
-#[derive(Clone, Debug)]
-pub enum Call {
-    Write { register: u32, value: u32 },
-    Select { selection: u32 },
-    Toggle { bits: u32 },
-    Start,
-    Put { tables_len: usize, byte: u8 },
-    Fill { out_len: usize },
-    Paint { low: u32, high: u32, tables_len: usize, pictures: Vec<u8>, out_len: usize },
-    Frame { tables_len: usize, pictures: Vec<u8>, out_len: usize },
-}
+/// The first seed whose calls are of every kind.
+const GATE_SEED: u64 = 72;
+const GATE_RECORDS: usize = 1_000;
 
-/// A display with the buffers it is lent. The tables begin with zeros, the output with 0, 1, 2 and
-/// so on, so that a call which should write nothing, or leave an alpha byte, is seen.
-#[derive(Clone)]
-pub struct Stage {
-    pub display: Display,
-    pub tables: Vec<u8>,
-    pub out: Vec<u8>,
-}
-
-impl Default for Stage {
-    fn default() -> Stage {
-        Stage::new()
-    }
-}
-
-impl Stage {
-    pub fn new() -> Stage {
-        let out = (0..OUT_ROOM).map(|i| i as u8).collect();
-        Stage { display: Display::new(), tables: vec![0; TABLES_ROOM], out }
-    }
-
-    /// Makes one call and answers its number.
-    pub fn play(&mut self, call: &Call) -> u32 {
-        let Stage { display, tables, out } = self;
-        match call {
-            Call::Write { register, value } => display.write(*register, *value),
-            Call::Select { selection } => display.select(*selection),
-            Call::Toggle { bits } => display.toggle(*bits),
-            Call::Start => display.start(),
-            Call::Put { tables_len, byte } => display.put(&mut tables[..*tables_len], *byte),
-            Call::Fill { out_len } => display.fill(&mut out[..*out_len]),
-            Call::Paint { low, high, tables_len, pictures, out_len } => {
-                display.paint(*low, *high, &tables[..*tables_len], pictures, &mut out[..*out_len])
-            }
-            Call::Frame { tables_len, pictures, out_len } => {
-                display.frame(&tables[..*tables_len], pictures, &mut out[..*out_len])
-            }
-        }
-    }
-}
-
-/// A script of n calls. It is made up of short runs, each going on from what the calls before it
+/// A script of n records. It is made up of short runs, each going on from what the calls before it
 /// left.
 pub fn gen_calls(seed: u64, n: usize) -> Vec<Call> {
     // Kept apart from the other cases' seeds.
     let mut author =
         Author { rng: Rng::new(seed ^ 0x6361_6C6C), stage: Stage::new(), calls: Vec::new() };
     while author.calls.len() < n {
-        match author.rng.below(10) {
-            0..=2 => author.load(),
-            3..=5 => author.set_up(),
-            6 => author.toggle(),
+        let nothing_active = author.stage.display.active().output_len() == 0;
+        match author.rng.below(60) {
+            _ if nothing_active && author.rng.percent(50) => author.set_up(),
+            0 => drop(author.call(NEW, 0, 0)),
+            1 => author.unknown(),
+            2..=16 => author.load(),
+            17..=31 => author.set_up(),
+            32..=35 => author.toggle(),
             _ => author.paint(),
         }
     }
     author.calls.truncate(n);
     author.calls
+}
+
+/// The script that the gate runs: all blends, the fades of ten lengths, and calls of every kind.
+pub fn gate_script() -> Vec<Call> {
+    let blends = (0..256).map(|alpha| Call { letter: BLENDS, a: alpha, b: 0 });
+    let lengths = [0, 1, 2, 3, 4, 255, 256, 32_768, 65_534, 65_535];
+    let fades = lengths.map(|length| Call { letter: FADES, a: length, b: 0 });
+    blends.chain(fades).chain(gen_calls(GATE_SEED, GATE_RECORDS)).collect()
 }
 
 struct Author {
@@ -92,50 +52,111 @@ struct Author {
 }
 
 impl Author {
-    fn call(&mut self, call: Call) -> u32 {
-        let answer = self.stage.play(&call);
+    fn call(&mut self, letter: u8, a: u32, b: u32) -> u32 {
+        let call = Call { letter, a, b };
+        let answer = self.stage.play(call);
         self.calls.push(call);
         answer
     }
 
-    /// The right length, or now and then a wrong one near it.
-    fn length(&mut self, right: usize) -> usize {
-        if self.rng.percent(98) {
-            return right;
+    /// A letter that means nothing.
+    fn unknown(&mut self) {
+        let letter = self.rng.pick(b"AZ?0wp");
+        let (a, b) = (self.rng.u32(), self.rng.u32());
+        self.call(letter, a, b);
+    }
+
+    /// Fills a buffer: alike all over, by a slope, or by a mixture.
+    fn fill_buffer(&mut self, letter: u8) {
+        let (first, any) = (self.rng.u32(), self.rng.u32());
+        let step = self.rng.pick(&[0, 1 << 24, any >> 8, any >> 12, any | 1, any | 1]);
+        self.call(letter, first, step);
+    }
+
+    /// Lends the right length of a buffer, or now and then a wrong one near it.
+    fn lend(&mut self, buffer: u32, right: usize) {
+        let mut length = right;
+        if self.rng.percent(3) {
+            length = self.rng.pick(&[0, right.saturating_sub(1), right + 1, right + 4]);
         }
-        let wrong = self.rng.pick(&[0, right.saturating_sub(1), right + 1, right + 4]);
-        if wrong == right {
-            right + 1
-        } else {
-            wrong
+        let Lent { tables, pictures, out } = self.stage.lent;
+        if [tables, pictures, out][buffer as usize] != length {
+            self.call(LEND, buffer, length as u32);
         }
     }
 
-    /// Selects a bank and puts some of it, at times past its end or into an active bank.
+    /// Changes tables: all of them, words of a bank, or by puts.
     fn load(&mut self) {
-        let g = self.rng.below(LAYERS);
-        let kind = self.rng.pick(&Kind::ALL);
+        let kind = self.rng.pick(&[
+            Kind::Instruction,
+            Kind::Instruction,
+            Kind::Colour,
+            Kind::Text,
+            Kind::Font,
+        ]);
+        let g = self.controller();
+        let layer = self.stage.display.active().layer(g);
+        let bytes = banks::bank(&mut self.rng, kind, layer.width.max(1), layer.height.max(1));
+        match self.rng.below(10) {
+            0 | 1 => self.fill_buffer(FILL_TABLES),
+            2..=5 => self.store_words(kind, g, &bytes),
+            _ => self.put_bytes(kind, g, &bytes),
+        }
+    }
+
+    /// A controller that serves an active graphics layer, if there is one.
+    fn controller(&mut self) -> usize {
+        let active = self.stage.display.active();
+        let drawn = |&n: &usize| active.layer(n).enabled && active.layer(n).graphics;
+        let serving: Vec<usize> = (0..LAYERS).filter(drawn).collect();
+        if serving.is_empty() || self.rng.percent(20) {
+            self.rng.below(LAYERS)
+        } else {
+            self.rng.pick(&serving)
+        }
+    }
+
+    /// Stores the front of a bank in the tables as their owner may, mostly of the active one; a
+    /// list mostly with END behind it.
+    fn store_words(&mut self, kind: Kind, g: usize, bytes: &[u8]) {
+        let active = self.stage.display.active().bank(kind, g);
+        let bank = Bank { g, kind, b: if self.rng.percent(80) { active } else { 1 - active } };
+        let count = if kind == Kind::Instruction { 4 * self.rng.range(1, 5) } else { 16 } as usize;
+        let mut words: Vec<u32> = bytes
+            .chunks(4)
+            .take(count)
+            .map(|word| u32::from_le_bytes(word.try_into().expect("banks are whole words")))
+            .collect();
+        if kind == Kind::Instruction && self.rng.percent(80) {
+            words.push(0);
+        }
+        for (i, word) in words.into_iter().enumerate() {
+            self.call(TABLE_WORD, (bank.start() + 4 * i) as u32, word);
+        }
+    }
+
+    /// Selects a bank, mostly an idle one, and puts some of it, at times past its end.
+    fn put_bytes(&mut self, kind: Kind, g: usize, bytes: &[u8]) {
         let active = self.stage.display.active().bank(kind, g);
         let bank = Bank { g, kind, b: if self.rng.percent(85) { 1 - active } else { active } };
-        let layer = self.stage.display.pending().layer(g);
-        let mut bytes = banks::bank(&mut self.rng, kind, layer.width.max(1), layer.height.max(1));
-        if self.rng.percent(30) {
-            bytes.extend([1, 2]);
-        } else if self.rng.percent(60) {
-            bytes.truncate(80);
-        }
         if !self.rng.percent(10) {
             let selection = bank.selection() + self.rng.pick(&[0, 0, 0, 0, 0, 0, 64, 0x1_0000]);
-            self.call(Call::Select { selection });
+            self.call(SELECT, selection, 0);
         }
         let mut refused = 0;
-        for byte in bytes {
-            let tables_len = self.length(TABLES_LEN);
-            refused += u32::from(self.call(Call::Put { tables_len, byte }) != DONE);
+        for &byte in bytes.iter().take(1 + self.rng.below(24)) {
+            self.lend(0, TABLES_LEN);
+            refused += u32::from(self.call(PUT, byte.into(), 0) != DONE);
             // A few more after a refusal show that it left the place; many would show no more.
-            if refused > 4 {
+            if refused > 2 {
                 return;
             }
+        }
+        if self.rng.percent(40) {
+            let left = (kind.end() as i64 + self.rng.range(-30, 2)) as u32;
+            let byte = u32::from(self.rng.byte());
+            self.call(PUT, byte, left);
+            self.call(PUT, 1, 0);
         }
     }
 
@@ -151,64 +172,83 @@ impl Author {
             wish.0[0] &= !0b100;
         }
         for register in (0..WORDS).filter(|&i| pending.0[i] != wish.0[i]) {
-            self.call(Call::Write { register: register as u32, value: wish.0[register] });
+            self.call(WRITE, register as u32, wish.0[register]);
         }
         if self.rng.percent(10) {
             let register = self.rng.pick(&[52, 53, 255, 256, u32::MAX]);
             let value = self.rng.u32();
-            self.call(Call::Write { register, value });
+            self.call(WRITE, register, value);
         }
         for _ in 0..self.rng.range(1, 3) {
-            self.call(Call::Start);
+            self.call(START, 0, 0);
         }
     }
 
     fn wish(&mut self, pending: &Words) -> Words {
         let now = self.stage.display.frame_number().wrapping_add(1);
-        if pending.check() == DONE && self.rng.percent(60) {
-            let room =
-                Room { width: pending.width(), height: pending.height(), frame_pixels: 300, now };
-            let mut wish = nudge(&mut self.rng, pending, room);
-            wish.0[0] |= 0b100;
-            wish.0[3] ^= 1 << self.rng.below(32);
-            return wish;
+        let room = |width, height| Room { width, height, frame_pixels: FRAME_PIXELS, now };
+        // After a refused start the pending words are left behind and the active ones gone on from.
+        let active = self.stage.display.active();
+        let base = [pending, active].into_iter().find(|words| words.check() == DONE).cloned();
+        match base {
+            Some(base) if self.rng.percent(92) => {
+                let room = room(base.width(), base.height());
+                let mut wish = nudge(&mut self.rng, &base, room);
+                wish.0[0] = 0b100 | u32::from(self.rng.percent(90));
+                wish.0[3] ^= 1 << self.rng.below(32);
+                wish
+            }
+            _ => {
+                let (width, height) = (self.rng.range(1, 40), self.rng.range(1, 24));
+                scene(&mut self.rng, room(width, height))
+            }
         }
-        let width = self.rng.range(1, 40);
-        let height = self.rng.range(1, 24);
-        scene(&mut self.rng, Room { width, height, frame_pixels: 300, now })
     }
 
     fn toggle(&mut self) {
         let bits = self.rng.pick(&[0, 1, 2, 0x11, 0x2222_2222, u32::MAX, 1 << 31]);
         let errors = self.stage.display.errors();
         let bits = if self.rng.percent(40) { errors } else { bits };
-        self.call(Call::Toggle { bits });
+        self.call(TOGGLE, bits, 0);
     }
 
     /// A whole frame, or a fill and bands over it, or bands over whatever the output holds.
     fn paint(&mut self) {
         if self.rng.percent(40) {
-            let (tables_len, pictures, out_len) = self.buffers();
-            self.call(Call::Frame { tables_len, pictures, out_len });
-            return;
+            self.fill_buffer(FILL_PICTURES);
         }
-        if self.rng.percent(60) {
-            let (_, _, out_len) = self.buffers();
-            self.call(Call::Fill { out_len });
+        if self.rng.percent(30) {
+            self.fill_buffer(FILL_OUT);
         }
-        let middle = self.rng.range(0, 8) as u32;
-        for (low, high) in [(0, middle), (middle, 8), self.odd_band()] {
-            let (tables_len, pictures, out_len) = self.buffers();
-            self.call(Call::Paint { low, high, tables_len, pictures, out_len });
+        self.lend_all();
+        if self.rng.percent(40) {
+            self.call(FRAME, 0, 0);
+        } else {
+            self.paint_bands();
+        }
+        if self.rng.percent(10) {
+            let place = self.rng.below(64) as u32;
+            self.call(VIEW, 4 * place, 0);
         }
     }
 
-    /// What a painting call is lent: the tables' length, the pictures and the output's length.
-    fn buffers(&mut self) -> (usize, Vec<u8>, usize) {
+    fn paint_bands(&mut self) {
+        if self.rng.percent(50) {
+            self.call(FILL, 0, 0);
+        }
+        let middle = self.rng.range(0, 8) as u32;
+        for (low, high) in [(0, middle), (middle, 8), self.odd_band()] {
+            self.call(BAND, low, high);
+            self.lend_all();
+        }
+    }
+
+    fn lend_all(&mut self) {
         let active = self.stage.display.active();
         let (pictures, out) = (active.pictures_len() as usize, active.output_len() as usize);
-        let pictures_len = self.length(pictures);
-        (self.length(TABLES_LEN), self.rng.bytes(pictures_len), self.length(out))
+        self.lend(0, TABLES_LEN);
+        self.lend(1, pictures);
+        self.lend(2, out);
     }
 
     /// A band that is empty, refused, or any at all.

@@ -10,7 +10,7 @@ mod scene;
 mod sheets;
 mod sweeps;
 
-pub use calls::{gen_calls, Call, Stage};
+pub use calls::{gate_script, gen_calls};
 pub use drawings::drawing_sheet;
 pub use form::line_text;
 pub use hosts::{gen_host, HostCase};

@@ -1,0 +1,212 @@
+//! The script that the figures program reads, the stage on which it is played, and the line that
+//! each of its records prints. What the calls do is in `display`.
+
+use crate::answers::DONE;
+use crate::bench::print_bench;
+use crate::display::Display;
+use crate::sums::{blends, checksum, fades};
+use crate::tables::TABLES_LEN;
+
+/// A fresh display, buffers of zeros, whole tables lent and nothing else.
+pub const NEW: u8 = b'N';
+/// Of buffer a (0 tables, 1 pictures, else the output) b bytes are lent from now on.
+pub const LEND: u8 = b'L';
+/// Tables, pictures and output filled by `pattern` from a in steps of b.
+pub const FILL_TABLES: u8 = b'K';
+pub const FILL_PICTURES: u8 = b'I';
+pub const FILL_OUT: u8 = b'D';
+/// The little-endian word b at byte a of the tables.
+pub const TABLE_WORD: u8 = b'Q';
+/// Write b to register a.
+pub const WRITE: u8 = b'W';
+pub const SELECT: u8 = b'S';
+pub const TOGGLE: u8 = b'T';
+pub const START: u8 = b'G';
+/// Put byte a, and then b times more, up to 1,023.
+pub const PUT: u8 = b'P';
+pub const FILL: u8 = b'F';
+/// Paint the band a..b.
+pub const BAND: u8 = b'B';
+pub const FRAME: u8 = b'R';
+/// Prints 32 bytes of the output from a on.
+pub const VIEW: u8 = b'V';
+/// Prints checksums of all blends at alpha a.
+pub const BLENDS: u8 = b'M';
+/// Prints checksums of fades of length a.
+pub const FADES: u8 = b'E';
+
+/// The records that call the display.
+pub const CALLS: [u8; 8] = [WRITE, SELECT, TOGGLE, START, PUT, FILL, BAND, FRAME];
+
+/// The buffers are longer than any right length, so that a call can be lent too much.
+const TABLES_ROOM: usize = TABLES_LEN + 16;
+const PIXELS_ROOM: usize = 4_096 + 16;
+
+/// One record: a letter and two numbers.
+#[derive(Clone, Copy, Debug, PartialEq, Eq)]
+pub struct Call {
+    pub letter: u8,
+    pub a: u32,
+    pub b: u32,
+}
+
+const RECORD_LEN: usize = 20;
+
+impl Call {
+    /// `W 00000001 00030004` and a line feed.
+    pub fn text(self) -> Vec<u8> {
+        let mut text = vec![self.letter];
+        text.extend(format!(" {:08x} {:08x}\n", self.a, self.b).into_bytes());
+        text
+    }
+
+    /// What is no digit, in lower case, counts as 0.
+    fn read(text: &[u8]) -> Call {
+        let digit = |byte: u8| match byte {
+            b'0'..=b'9' => u32::from(byte - b'0'),
+            b'a'..=b'f' => u32::from(byte - b'a') + 10,
+            _ => 0,
+        };
+        let number =
+            |at: usize| text[at..at + 8].iter().fold(0, |number, &byte| number << 4 | digit(byte));
+        Call { letter: text[0], a: number(2), b: number(11) }
+    }
+}
+
+pub fn script_text(calls: &[Call]) -> Vec<u8> {
+    calls.iter().flat_map(|call| call.text()).collect()
+}
+
+/// How many bytes of each buffer are lent.
+#[derive(Clone, Copy, PartialEq, Eq)]
+pub struct Lent {
+    pub tables: usize,
+    pub pictures: usize,
+    pub out: usize,
+}
+
+#[derive(Clone, PartialEq, Eq)]
+pub struct Stage {
+    pub display: Display,
+    pub tables: Vec<u8>,
+    pub pictures: Vec<u8>,
+    pub out: Vec<u8>,
+    pub lent: Lent,
+}
+
+impl Default for Stage {
+    fn default() -> Stage {
+        Stage::new()
+    }
+}
+
+impl Stage {
+    pub fn new() -> Stage {
+        Stage {
+            display: Display::new(),
+            tables: vec![0; TABLES_ROOM],
+            pictures: vec![0; PIXELS_ROOM],
+            out: vec![0; PIXELS_ROOM],
+            lent: Lent { tables: TABLES_LEN, pictures: 0, out: 0 },
+        }
+    }
+
+    /// Does what one record asks and answers the call's number, 0 where it calls nothing.
+    pub fn play(&mut self, call: Call) -> u32 {
+        let Call { letter, a, b } = call;
+        let Stage { display, tables, pictures, out, lent } = self;
+        let lent_tables = &mut tables[..lent.tables];
+        let lent_pictures = &pictures[..lent.pictures];
+        let lent_out = &mut out[..lent.out];
+        match letter {
+            WRITE => return display.write(a, b),
+            SELECT => return display.select(a),
+            TOGGLE => return display.toggle(a),
+            START => return display.start(),
+            PUT => {
+                let puts = (0..=b % 1_024).map(|_| display.put(lent_tables, a as u8));
+                return puts.last().expect("one at least");
+            }
+            FILL => return display.fill(lent_out),
+            BAND => return display.paint(a, b, lent_tables, lent_pictures, lent_out),
+            FRAME => return display.frame(lent_tables, lent_pictures, lent_out),
+            NEW => *self = Stage::new(),
+            LEND => self.lend(a, b as usize),
+            FILL_TABLES => pattern(tables, a, b, false),
+            FILL_PICTURES => pattern(pictures, a, b, true),
+            FILL_OUT => pattern(out, a, b, false),
+            TABLE_WORD => {
+                for (place, byte) in (u64::from(a)..).zip(b.to_le_bytes()) {
+                    if place < TABLES_ROOM as u64 {
+                        tables[place as usize] = byte;
+                    }
+                }
+            }
+            _ => {}
+        }
+        DONE
+    }
+
+    /// More than a buffer has is all of it.
+    fn lend(&mut self, buffer: u32, length: usize) {
+        match buffer {
+            0 => self.lent.tables = length.min(TABLES_ROOM),
+            1 => self.lent.pictures = length.min(PIXELS_ROOM),
+            _ => self.lent.out = length.min(PIXELS_ROOM),
+        }
+    }
+
+    /// The line that a record prints: its letter, the answer, what the state tells, and the
+    /// checksums of all tables and all output. The last three letters print what they are for.
+    fn line(&mut self, call: Call) -> Vec<u8> {
+        let columns = match call.letter {
+            VIEW => self.view(call.a),
+            BLENDS => format!(" {:02x}{}", call.a % 256, columns(&blends(call.a % 256))),
+            FADES => format!(" {:04x}{}", call.a % 65_536, columns(&fades(call.a % 65_536))),
+            _ => {
+                let answer = self.play(call);
+                let Stage { display, tables, out, .. } = self;
+                let told = [display.errors(), display.frame_number()];
+                let (width, height) = (display.width(), display.height());
+                let sums = [checksum(tables), checksum(out)];
+                let (told, sums) = (columns(&told), columns(&sums));
+                format!(" {answer:02x}{told} {width:03x} {height:03x}{sums}")
+            }
+        };
+        [&[call.letter][..], columns.as_bytes(), b"\n"].concat()
+    }
+
+    fn view(&self, first: u32) -> String {
+        let byte = |i| self.out.get(first as usize + i).copied().unwrap_or(0);
+        (0..32).map(|i| format!(" {:02x}", byte(i))).collect()
+    }
+}
+
+fn columns(numbers: &[u32]) -> String {
+    numbers.iter().map(|number| format!(" {number:08x}")).collect()
+}
+
+/// Each byte is the highest of a number that goes up by a step from byte to byte. In pixels each
+/// fourth is an alpha, and the lowest and highest three eighths of the numbers give 0 and 255.
+fn pattern(buffer: &mut [u8], first: u32, step: u32, pixels: bool) {
+    let mut number = first;
+    for (i, byte) in buffer.iter_mut().enumerate() {
+        *byte = if pixels && i % 4 == 3 {
+            (i64::from(number >> 22) - 384).clamp(0, 255) as u8
+        } else {
+            (number >> 24) as u8
+        };
+        number = number.wrapping_add(step);
+    }
+}
+
+/// All that the figures program prints for a script: the bench figures, and a line a record. What
+/// is left of a last record is no record.
+pub fn print_script(text: &[u8]) -> Vec<u8> {
+    let mut stage = Stage::new();
+    let mut printed = print_bench().into_bytes();
+    for record in text.chunks_exact(RECORD_LEN) {
+        printed.extend(stage.line(Call::read(record)));
+    }
+    printed
+}
