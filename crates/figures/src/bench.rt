@@ -2,10 +2,8 @@
 // that came out.
 use crate::buffers;
 use crate::print::figure;
+use crate::screen::screen;
 use display::Display;
-
-// Display on, update enable.
-const ON: u32 = 5;
 
 fn blend(name: &[u8], a: u8, over: u8, under: u8) {
     figure(name, mix::blend(a, over, under) as u32);
@@ -37,13 +35,6 @@ fn show_fade() {
     figure(b"fade of 3, e 1: ", mix::fade(255, 0, 3, 0, 1) as u32);
     fade_up(b"fade at e 2147483647: ", 0, 2147483647);
     fade_up(b"fade at e 2147483648: ", 0, 2147483648);
-}
-
-// A screen of that size, with its display on.
-fn screen(size: u32) -> Display {
-    let a = Display::new().write(0, ON);
-    let b = a.state.write(1, size);
-    b.state
 }
 
 // Puts bytes into a table, from its first on.

@@ -5,13 +5,13 @@ use crate::checksum::NONE;
 use crate::checksum::checksum;
 use crate::checksum::with_byte;
 use crate::print;
+use crate::screen::GLOBAL;
+use crate::screen::covered_screen;
 use display::Display;
 ghost use mathlib.Core.Path.{_≡_};
 ghost use lib.ListN.{length};
 
 const SIZE: u32 = 86 * 65536 + 256;
-
-const GLOBAL: u32 = 2147483648;
 
 fn pixels() -> [u8; 88064]
     ensures { λ r. ⌜ 88064 ≡ length r ⌝ }
@@ -19,15 +19,11 @@ fn pixels() -> [u8; 88064]
     [0; 88064]
 }
 
-// The screen with one frame layer all over it, started.
-fn screen(alpha: u32) -> Display {
-    let a = Display::new().write(0, 5);
-    let b = a.state.write(1, SIZE);
-    let c = b.state.write(4, 1);
-    let d = c.state.write(5, alpha);
-    let e = d.state.write(7, SIZE);
-    let f = e.state.start();
-    f.state
+// The screen with a layer all over it that has that alpha word, started.
+fn started(word: u32) -> Display {
+    let a = covered_screen(SIZE).write(5, word);
+    let b = a.state.start();
+    b.state
 }
 
 // The number of the pair that a byte of the screen belongs to. An alpha byte has the next one's.
@@ -68,7 +64,7 @@ fn lay_over(pictures: &mut [u8], alpha: u8, mixed: bool) {
     }
 }
 
-// The checksum of the painted screen. A layer with global alpha has it in `word`.
+// The checksum of the painted screen.
 fn painted(
     word: u32,
     alpha: u8,
@@ -79,7 +75,7 @@ fn painted(
 ) -> u32 {
     lay_over(pictures, alpha, mixed);
     lay_under(out);
-    screen(word).paint(0, 8, tables, pictures, out);
+    started(word).paint(0, 8, tables, pictures, out);
     checksum(out)
 }
 

@@ -4,6 +4,8 @@ use crate::buffers;
 use crate::checksum::NONE;
 use crate::checksum::with_byte;
 use crate::print;
+use crate::screen::GLOBAL;
+use crate::screen::covered_screen;
 use display::Display;
 
 const CASES: usize = 6 * 6 * 3 * 16 * 6;
@@ -37,8 +39,6 @@ const AWAY: [u32; 16] = [
 
 const ONE_PIXEL: u32 = 65536 + 1;
 
-const GLOBAL: u32 = 2147483648;
-
 struct Case {
     value: u8,
     target: u8,
@@ -65,15 +65,6 @@ fn case_of(i: usize, length: u16) -> Case {
         start: start,
         frame: std::num::wrapping_add_u32(start, since),
     }
-}
-
-// One pixel of screen with a frame layer on it.
-fn screen() -> Display {
-    let a = Display::new().write(0, 5);
-    let b = a.state.write(1, ONE_PIXEL);
-    let c = b.state.write(4, 1);
-    let d = c.state.write(7, ONE_PIXEL);
-    d.state
 }
 
 // The display with the case's fade, started. Its frame number is then 1, so the fade's start lies
@@ -107,7 +98,7 @@ fn called_sum(length: u16) -> u32 {
 
 fn painted_sum(length: u16, tables: &[u8]) -> u32 {
     let mut sum = NONE;
-    let state = screen();
+    let state = covered_screen(ONE_PIXEL);
     for i in 0..PAINTED {
         sum = with_byte(sum, painted(state, case_of(i, length), length, tables));
     }

@@ -7,6 +7,7 @@ mod checksum;
 mod fades;
 mod print;
 mod record;
+mod screen;
 mod script;
 mod stage;
 

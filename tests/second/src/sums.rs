@@ -57,25 +57,20 @@ const AWAY: [i64; 16] = [
     -1,
 ];
 
-/// All fades of a length between those values, from each start, at frames that lie so far away from
-/// their begin, middle and end. The first checksum is of all; painting needs one start alone, since
-/// it counts from its own frame number, and white over black gives the alpha.
+/// The fade of case i: a value, a target, a start, and a frame that lies so far away from the
+/// begin, the middle or the end.
+fn fade_case(length: u32, i: usize) -> u8 {
+    let (value, target) = (VALUES[i % 6], VALUES[i / 6 % 6]);
+    let place = [0, length / 2, length][i / 36 % 3];
+    let start = STARTS[i / 1_728];
+    let frame = i64::from(start) + i64::from(place) + AWAY[i / 108 % 16];
+    Fade { value, target, start, length }.at(frame as u32) as u8
+}
+
+/// All cases of a length; and those of one start as they are painted, since painting counts from its
+/// own frame number. White over black gives the alpha.
 pub fn fades(length: u32) -> [u32; 2] {
-    let mut called = Vec::new();
-    for start in STARTS {
-        for away in AWAY {
-            for place in [0, length / 2, length] {
-                for target in VALUES {
-                    for value in VALUES {
-                        let frame = i64::from(start) + i64::from(place) + away;
-                        let fade = Fade { value, target, start, length };
-                        called.push(fade.at(frame as u32) as u8);
-                    }
-                }
-            }
-        }
-    }
-    let of_one_start = &called[..called.len() / STARTS.len()];
-    let painted = of_one_start.iter().map(|&alpha| blend(u32::from(alpha), 255, 0) as u8);
+    let called: Vec<u8> = (0..6 * 1_728).map(|i| fade_case(length, i)).collect();
+    let painted = called[..1_728].iter().map(|&alpha| blend(u32::from(alpha), 255, 0) as u8);
     [checksum(&called), checksum(&painted.collect::<Vec<u8>>())]
 }

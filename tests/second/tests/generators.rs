@@ -4,7 +4,7 @@
 use second::answers::*;
 use second::cases::{gate_script, gen_calls, gen_host, gen_sheet};
 use second::host::host_frame;
-use second::script::{Call, Stage, BAND, CALLS, FILL, FRAME, START};
+use second::script::*;
 use second::sheet::print_sheet;
 use second::tables::TABLES_LEN;
 use second::words::LAYERS;
@@ -156,7 +156,8 @@ fn count_kinds(calls: &[Call], counts: &mut BTreeMap<String, usize>) {
 /// The kinds that every script of the gate's length has to have, named as `kinds` names them.
 fn wanted_kinds() -> Vec<String> {
     let mut wanted: Vec<String> = (DONE..=WRONG_BAND).map(|n| format!("answer {n}")).collect();
-    wanted.extend(CALLS.map(|letter| (letter as char).to_string()));
+    let others = [NEW, LEND, FILL_TABLES, FILL_PICTURES, FILL_OUT, TABLE_WORD, VIEW];
+    wanted.extend(CALLS.iter().chain(&others).map(|&letter| (letter as char).to_string()));
     for letter in ["F", "B", "R"] {
         wanted.push(format!("{letter} over a dirty buffer"));
         wanted.push(format!("{letter} changes the output"));

@@ -2,11 +2,11 @@
 
 use crate::answers::DONE;
 use crate::cases::banks;
-use crate::cases::scene::{nudge, scene, spoil, Room};
+use crate::cases::scene::{controller, nudge, scene, spoil, Room};
 use crate::rng::Rng;
 use crate::script::*;
 use crate::tables::{Bank, Kind, TABLES_LEN};
-use crate::words::{Words, LAYERS, WORDS};
+use crate::words::{Words, WORDS};
 
 /// The pixels that frame layers may bring together.
 const FRAME_PIXELS: i64 = 900;
@@ -94,25 +94,13 @@ impl Author {
             Kind::Text,
             Kind::Font,
         ]);
-        let g = self.controller();
+        let g = controller(&mut self.rng, self.stage.display.active());
         let layer = self.stage.display.active().layer(g);
         let bytes = banks::bank(&mut self.rng, kind, layer.width.max(1), layer.height.max(1));
         match self.rng.below(10) {
             0 | 1 => self.fill_buffer(FILL_TABLES),
             2..=5 => self.store_words(kind, g, &bytes),
             _ => self.put_bytes(kind, g, &bytes),
-        }
-    }
-
-    /// A controller that serves an active graphics layer, if there is one.
-    fn controller(&mut self) -> usize {
-        let active = self.stage.display.active();
-        let drawn = |&n: &usize| active.layer(n).enabled && active.layer(n).graphics;
-        let serving: Vec<usize> = (0..LAYERS).filter(drawn).collect();
-        if serving.is_empty() || self.rng.percent(20) {
-            self.rng.below(LAYERS)
-        } else {
-            self.rng.pick(&serving)
         }
     }
 

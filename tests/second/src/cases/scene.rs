@@ -148,6 +148,17 @@ fn change(rng: &mut Rng, words: &mut Words, room: Room) {
     }
 }
 
+/// A controller that serves an enabled graphics layer as a rule, if there is one.
+pub fn controller(rng: &mut Rng, words: &Words) -> usize {
+    let drawn = |&n: &usize| words.layer(n).enabled && words.layer(n).graphics;
+    let serving: Vec<usize> = (0..LAYERS).filter(drawn).collect();
+    if serving.is_empty() || rng.percent(5) {
+        rng.below(LAYERS)
+    } else {
+        rng.pick(&serving)
+    }
+}
+
 /// Gives the words one fault that a start refuses with that number, unless another fault comes
 /// first.
 pub fn spoil(rng: &mut Rng, words: &mut Words, answer: u32) {

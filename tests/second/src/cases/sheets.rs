@@ -3,7 +3,7 @@
 //! or badly formed.
 
 use crate::answers::*;
-use crate::cases::scene::{nudge, scene, spoil, Room};
+use crate::cases::scene::{controller, nudge, scene, spoil, Room};
 use crate::cases::{banks, form};
 use crate::rng::Rng;
 use crate::sheet::{Line, Load, Sheet, Write, MOST_DIGITS, MOST_OUTPUT};
@@ -141,7 +141,7 @@ impl Author {
 
     /// Loads of banks that are not active, and mostly the wish that they become so.
     fn load_idle_banks(&mut self, line: &mut Line, wish: &mut Words) {
-        let g = self.controller(wish);
+        let g = controller(&mut self.rng, wish);
         let no_colours =
             active_bytes(wish, Kind::Colour, g, &self.sheet.tables).iter().all(|&byte| byte == 0);
         let kinds = match self.rng.below(10) {
@@ -169,17 +169,6 @@ impl Author {
         }
         if self.rng.percent(4) {
             wish.0[3] ^= 1 << self.rng.below(32);
-        }
-    }
-
-    /// A controller that serves an enabled graphics layer, if there is one.
-    fn controller(&mut self, words: &Words) -> usize {
-        let drawn = |&n: &usize| words.layer(n).enabled && words.layer(n).graphics;
-        let serving: Vec<usize> = (0..LAYERS).filter(drawn).collect();
-        if serving.is_empty() || self.rng.percent(5) {
-            self.rng.below(LAYERS)
-        } else {
-            self.rng.pick(&serving)
         }
     }
 

@@ -10,8 +10,8 @@ Inv-loop length tables sum₀ state i₀ sum i = i ≤ 1728
 abbrev μ-loop : tie.MeasureT-loop
 μ-loop length tables sum₀ state i₀ sum i = 1728 - i
 
-screen-requires : tie.Need-screen-requires Inv-loop μ-loop
-screen-requires c κs = search needs
+covered-screen-requires : tie.Need-covered-screen-requires Inv-loop μ-loop
+covered-screen-requires c κs = search needs
 
 loop-holds : tie.Need-loop-holds Inv-loop μ-loop
 loop-holds c = search needs
@@ -43,7 +43,7 @@ painted-sum-spec =
     (tie.spec
     Inv-loop
     μ-loop
-    screen-requires
+    covered-screen-requires
     loop-holds
     case-of-requires
     painted-requires

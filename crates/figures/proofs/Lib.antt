@@ -1,1 +1,0 @@
--- The laws that proofs of this crate cite. Assumes nothing.
