@@ -1,12 +1,10 @@
 -- Laws of a band: the fold over depths and layers with any step. Assumes nothing.
-use mathlib.Core.Path.{_≡_, refl, sym, _∙_}
-use mathlib.Core.Bool.{Bool, true}
+use mathlib.Core.Path.{_≡_, sym, _∙_}
 use mathlib.Core.List.{List}
 use Prim.Native.Nat.{ℕ, _+_, _-_, _/_, _%_, _≤_, _<_}
 use native.Mathlib.Omega.{arith}
 use borrow.Author.Tests.{eq-eqb, eqb-true}
 use lib.Dec.{eqb}
-use Rattle.lists.specs.Choice.{pick}
 use Rattle.lists.specs.Tab.{each}
 use Rattle.lists.proofs.Choice.{pick-keeps, pick-twice, pick-other, pickList-twice, both-left, both-false}
 use Rattle.lists.proofs.Run.{run-keeps, run-id, run-cong, run-split, run-forgets, run-only}

@@ -2,7 +2,7 @@
 -- earlier ones. Assumes nothing.
 use mathlib.Core.Path.{_≡_, refl}
 use mathlib.Core.Bool.{Bool, true, false}
-use mathlib.Core.Logic.{_↔_, _⊎_}
+use mathlib.Core.Logic.{_↔_}
 use mathlib.Core.List.{List}
 use Prim.Native.Nat.{ℕ, _+_, _<_}
 use lib.Dec.{eqb, ltb}
@@ -11,63 +11,8 @@ use Rattle.lists.specs.Runs.{firstOf}
 use Rattle.words.specs.declared.fields.Layer.{Layer}
 use Rattle.words.specs.Fields.{widthOf, heightOf, layerOf}
 use Rattle.words.specs.Check.{reservedAt, screenOf, placeOf, placeAt, clashOf, clashAt, clashBelow, checkOf}
-use Rattle.words.proofs.CheckLaws.{Plain}
+use Rattle.laws.specs.Rows.{ReservedBit, EmptyScreen, Enabled, EmptyLayer, OffScreen, Passes, SameDepth, Case8, Case9, Case10, Case11, Faultless}
 use Rattle.laws.proofs.Refusals.{says-itself, eqb-says, ltb-says, both-says, either-says, Tells, refuses, refuses-but, tells-as, Misses, other, misses-or, or-first, or-later, given-when, passed-when, own, past, tells-first, misses-first, first-passed, first-given}
-
--- ---- the cases, of the words w
-
--- 7: "a reserved bit is set in any pending word"
-abbrev pub ReservedBit : List ℕ → Type 0
-ReservedBit w = (i : ℕ) × (i < 52) × ¬ Plain w i
-
--- 8: "output width or height 0"
-abbrev pub EmptyScreen : List ℕ → Type 0
-EmptyScreen w = (widthOf w ≡ 0) ⊎ (heightOf w ≡ 0)
-
-abbrev pub Enabled : List ℕ → ℕ → Type 0
-Enabled w n = layerOf w n .on ≡ true
-
--- 9: "enabled layer with width or height 0"
-abbrev pub EmptyLayer : List ℕ → ℕ → Type 0
-EmptyLayer w n = Enabled w n × ((layerOf w n .width ≡ 0) ⊎ (layerOf w n .height ≡ 0))
-
--- 10: "enabled layer with x+width > output width, or y+height > output height"
-abbrev pub OffScreen : List ℕ → ℕ → Type 0
-OffScreen w n =
-    Enabled w n × ((widthOf w < layerOf w n .x + layerOf w n .width) ⊎ (heightOf w < layerOf w n .y + layerOf w n .height))
-
--- layer n gives neither
-abbrev pub Passes : List ℕ → ℕ → Type 0
-Passes w n = (¬ EmptyLayer w n) × (¬ OffScreen w n)
-
--- "then layers 0 to 7 each 9 then 10": the first layer that does not pass has the case P
-abbrev pub FirstLayer : List ℕ → (ℕ → Type 0) → Type 0
-FirstLayer w P = (n : ℕ) × (n < 8) × P n × ((m : ℕ) → m < n → Passes w m)
-
-abbrev pub AllPass : List ℕ → Type 0
-AllPass w = (n : ℕ) → n < 8 → Passes w n
-
--- 11: "two enabled layers of one depth"
-abbrev pub SameDepth : List ℕ → Type 0
-SameDepth w = (n : ℕ) × (m : ℕ) × (m < n) × (n < 8) × Enabled w n × Enabled w m × (layerOf w n .depth ≡ layerOf w m .depth)
-
--- ---- the cases in order: "Start 7, 8, then layers 0 to 7 each 9 then 10, then 11."
-
-abbrev pub Case8 : List ℕ → Type 0
-Case8 w = (¬ ReservedBit w) × EmptyScreen w
-
-abbrev pub Case9 : List ℕ → Type 0
-Case9 w = (¬ ReservedBit w) × ((¬ EmptyScreen w) × FirstLayer w (EmptyLayer w))
-
-abbrev pub Case10 : List ℕ → Type 0
-Case10 w = (¬ ReservedBit w) × ((¬ EmptyScreen w) × FirstLayer w (λ n. (¬ EmptyLayer w n) × OffScreen w n))
-
-abbrev pub Case11 : List ℕ → Type 0
-Case11 w = (¬ ReservedBit w) × ((¬ EmptyScreen w) × (AllPass w × SameDepth w))
-
--- none of 7 to 11
-abbrev pub Faultless : List ℕ → Type 0
-Faultless w = (¬ ReservedBit w) × ((¬ EmptyScreen w) × (AllPass w × (¬ SameDepth w)))
 
 -- ---- the tests
 

@@ -7,8 +7,6 @@ use mathlib.Core.List.{List}
 use Prim.Native.Nat.{ℕ, _+_, _*_, _≤_, _<_}
 use native.Mathlib.Omega.{arith}
 use lib.ListN.{length, getD, length-set}
-use Rattle.lists.specs.Choice.{pick}
-use Rattle.lists.specs.Cut.{cut}
 use Rattle.lists.proofs.Choice.{same-or, split, pick-cong, pick-keeps, both-left}
 use Rattle.lists.proofs.Cut.{length-cut, cut-low, cut-high}
 use Rattle.lists.proofs.Sum.{sum-cong, sum-room, sum-without}

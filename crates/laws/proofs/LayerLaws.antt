@@ -1,13 +1,12 @@
 -- A layer's fields after its first word was replaced, and words that stay accepted. Assumes nothing.
 use mathlib.Core.Path.{_≡_, refl, sym, ap, subst, _∙_}
-use mathlib.Core.Bool.{Bool, true, false}
+use mathlib.Core.Bool.{true, false}
 use mathlib.Core.Logic.{⊎-elim}
 use mathlib.Core.List.{List}
 use Prim.Native.Nat.{ℕ, _+_, _*_, _/_, _%_, _≤_, _<_}
 use native.Mathlib.Omega.{arith}
-use lib.Dec.{eqb}
 use lib.Bits.{bitAnd, and-mod, and-shr, and-zero-l, and-zero-r}
-use lib.ListN.{getD, set, length, length-set}
+use lib.ListN.{getD, set, length}
 use lib.Seq.{getD-set-same, getD-set-other}
 use Rattle.lists.specs.Runs.{firstOf}
 use Rattle.lists.proofs.Choice.{same-or}

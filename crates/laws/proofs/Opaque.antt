@@ -3,27 +3,23 @@
 use mathlib.Core.Path.{_≡_, refl, sym, ap, ap₂, _∙_}
 use mathlib.Core.Bool.{Bool, true, false}
 use mathlib.Core.Logic.{_⊎_, inl, inr, ⊎-elim}
-use mathlib.Core.List.{List}
 use Prim.Native.Nat.{ℕ, _+_, _*_, _≤_, _<_}
-use native.Mathlib.Nat.{mul-comm}
 use native.Mathlib.Omega.{arith}
 use borrow.Author.Tests.{eqb-true}
-use lib.Dec.{eqb}
-use lib.ListN.{getD}
-use Rattle.lists.specs.Choice.{pick, both}
+use Rattle.lists.specs.Choice.{pick}
 use Rattle.lists.proofs.Choice.{split, pick-cong, both-left, both-right}
 use Rattle.lists.proofs.Sum.{sum-cong}
 use Rattle.mix.specs.Blend.{blendOf}
 use Rattle.mix.proofs.BlendLaws.{blendOf-opaque}
 use Rattle.words.specs.declared.fields.Layer.{Layer}
-use Rattle.words.specs.Fields.{widthOf, heightOf, layerOf}
+use Rattle.words.specs.Fields.{layerOf}
 use Rattle.words.specs.Order.{here}
 use Rattle.words.specs.Pictures.{pictureLen, pictureLenAt, pictureStart}
 use Rattle.paint.specs.Scene.{Scene}
-use Rattle.paint.specs.Pixel.{bankOf, indexOf, graphicsAt, pictureAt, ownAt, fadedOf, alphaAt, covers, overAt}
+use Rattle.paint.specs.Pixel.{bankOf, indexOf, graphicsAt, pictureAt, ownAt, alphaAt, covers, overAt}
 use Rattle.paint.specs.Band.{layerStep, depthStep, pixelAt}
 use Rattle.paint.proofs.LineLaws.{covers-covered, over-inside}
-use Rattle.laws.specs.Painting.{Ready, IsLayer, OnScreen, channelAt, alphaOver, ownOver, OpaqueAt, SameAt, From, AgreeFrom, withAlphaOf, OtherUnder}
+use Rattle.laws.specs.Painting.{Ready, IsLayer, OnScreen, channelAt, ownOver, OpaqueAt, SameAt, From, AgreeFrom, OtherUnder}
 use Rattle.laws.proofs.LayerLaws.{depth-lt}
 use Rattle.laws.proofs.Bands.{bandBy-forgets, depthStep-only}
 use Rattle.laws.proofs.Pixels.{ready-accepted, picture-room, across-lt, channelAt-is}

@@ -1,6 +1,6 @@
 -- Laws of one layer over a pixel, and of a frame by its pixels. Assumes nothing.
 use mathlib.Core.Path.{_≡_, refl, sym, ap, ap₂, _∙_}
-use mathlib.Core.Bool.{Bool, true, false}
+use mathlib.Core.Bool.{Bool, true, false, not, true≢false}
 use mathlib.Core.List.{List}
 use Prim.Native.Nat.{ℕ, _+_, _-_, _*_, _/_, _%_, _≤_, _<_}
 use native.Mathlib.Nat.{mul-comm}
@@ -9,8 +9,7 @@ use borrow.Author.Tests.{ne-eqb, eq-eqb, le-leb}
 use lib.Dec.{eqb}
 use lib.Arith.{digits-div, digits-mod}
 use lib.ListN.{length, getD}
-use Rattle.lists.specs.Choice.{pick, pickList, both}
-use Rattle.lists.specs.Tab.{tab, each}
+use Rattle.lists.specs.Choice.{pick, both}
 use Rattle.lists.proofs.Choice.{pick-cong}
 use Rattle.lists.proofs.Sum.{sum-cong}
 use Rattle.lists.proofs.Tab.{length-tab, getD-tab, getD-each, tab-cong, each-cong}
@@ -18,18 +17,17 @@ use Rattle.answers.specs.Answers.{done}
 use Rattle.mix.specs.Blend.{blendOf}
 use Rattle.mix.proofs.BlendLaws.{blendOf-clear}
 use Rattle.words.specs.declared.fields.Layer.{Layer}
-use Rattle.words.specs.Fields.{shownOf, widthOf, heightOf, groundOf, activeBankOf, layerOf}
+use Rattle.words.specs.Fields.{shownOf, widthOf, heightOf, groundOf, layerOf}
 use Rattle.words.specs.Pictures.{pictureLen, pictureLenAt, pictureStart, picturesLen}
 use Rattle.words.proofs.CheckLaws.{Accepted, check-accepted, accepted-check}
-use Rattle.tables.specs.Selection.{activeAt}
 use Rattle.draw.specs.Drawing.{endedOf}
 use Rattle.paint.specs.Scene.{Scene}
 use Rattle.paint.specs.Pixel.{bankOf, indexOf, graphicsAt, pictureAt, ownAt, fadedOf, alphaAt, covers, overAt}
 use Rattle.paint.specs.Band.{pixelAt, bandByte, bandOf, missing, markAt}
 use Rattle.paint.specs.Frame.{frameLen, paintRefusal, refusalOf, fillByte, fillOf, frameOf}
-use Rattle.paint.proofs.LineLaws.{Covered, covers-covered, row-room, over-inside, over-outside}
-use Rattle.laws.specs.Painting.{Ready, OnScreen, channelAt, alphaOver, ownOver, withWords, Clear}
-use Rattle.laws.proofs.LayerLaws.{atDepth, Alike}
+use Rattle.paint.proofs.LineLaws.{Covered, covers-covered, covered-covers, row-room, over-inside, over-outside}
+use Rattle.laws.specs.Painting.{Ready, OnScreen, channelAt, withWords, Clear}
+use Rattle.laws.proofs.LayerLaws.{Alike}
 
 -- ---- what is ready is painted
 
@@ -79,7 +77,7 @@ across-lt l x y e =
 -- ---- one layer over a pixel
 
 pub covers-not : (l : Layer) (x y : ℕ) → covers l x y ≡ false → Covered l x y → ⊥
-covers-not l x y e c = mathlib.Core.Bool.true≢false (sym (Rattle.paint.proofs.LineLaws.covered-covers l x y c) ∙ e)
+covers-not l x y e c = true≢false (sym (covered-covers l x y c) ∙ e)
 
 -- a layer with no alpha anywhere
 pub over-clear : (s : Scene) (x y c n p : ℕ) → Clear s n → overAt s x y c n p ≡ p
@@ -161,7 +159,7 @@ module _ (s : Scene) (w′ : List ℕ) (alike : (n : ℕ) → Alike (layerOf w�
   unfolding missing
   missing-alike n =
       rw (bankOf-alike (s .tables) 0 n)
-      (ap (λ (l : Layer). both (l .graphics) (mathlib.Core.Bool.not (endedOf (bankOf (s .words) (s .tables) 0 n)))) (alike n))
+      (ap (λ (l : Layer). both (l .graphics) (not (endedOf (bankOf (s .words) (s .tables) 0 n)))) (alike n))
 
   pub mark-alike : (n e : ℕ) → markAt (withWords s w′) n e ≡ markAt s n e
   unfolding markAt

@@ -28,55 +28,8 @@ use Rattle.display.specs.Reached.{Sound}
 use Rattle.display.specs.Paint.{sceneWith, fillTold, fillBytes, paintTold, paintBytes, frameTold, frameBytes}
 use Rattle.host.specs.Host.{wordsOf, sceneIn, hostAnswer, hostOutput}
 use Rattle.laws.proofs.Refusals.{Says, says-itself, eqb-says, ltb-says, leb-says, both-says, either-says, Tells, refuses, refuses-but, tells-as, over-zero, Misses, other, misses-or, or-first, or-later, given-when, passed-when, own, past}
-use Rattle.laws.proofs.CheckRows.{ReservedBit, Case8, Case9, Case10, Case11, Faultless, check-7, check-8, check-9, check-10, check-11, check-0, check-misses}
-
--- a row of the table: "No.", "Given exactly when", "Leaves"
-pub record Row (answer number : ℕ) (Case Left : Type 0) : Type 0 where
-  pub only : answer ≡ number → Case
-  pub when : Case → answer ≡ number
-  pub leaves : answer ≡ number → Left
-
--- ---- the cases, beside the check's: w are the active words, or the host's
-
--- "if the pending update bit is set"
-abbrev pub Updates : Display → Type 0
-Updates d = updateOf (d .pending) ≡ true
-
--- 15: "lower end above upper, or upper above 8"
-abbrev pub NoBand : ℕ → ℕ → Type 0
-NoBand a b = (b < a) ⊎ (8 < b)
-
--- 12: "active output size still 0"
-abbrev pub NoSize : List ℕ → Type 0
-NoSize w = (widthOf w ≡ 0) ⊎ (heightOf w ≡ 0)
-
--- 13: "output not 4·width·height bytes"
-abbrev pub WrongOutput : List ℕ → List ℕ → Type 0
-WrongOutput w out = ¬ (length out ≡ 4 * (widthOf w * heightOf w))
-
--- 6: "tables not 29,696 bytes"
-abbrev pub WrongTables : List ℕ → Type 0
-WrongTables tables = ¬ (length tables ≡ tablesLen)
-
--- 14: "pictures of the wrong total length"
-abbrev pub WrongPictures : List ℕ → List ℕ → Type 0
-WrongPictures w pictures = ¬ (length pictures ≡ picturesLen w)
-
--- 3: "nothing selected"
-abbrev pub NotSelected : Display → Type 0
-NotSelected d = d .selected ≡ false
-
--- 4: "the active word 3 names the selected bank"
-abbrev pub BankActive : Display → Type 0
-BankActive d = namedBy (d .active) (d .selection) ≡ true
-
--- 5: "place is at the kind's end"
-abbrev pub BankFull : Display → Type 0
-BankFull d = d .place ≡ endOf (d .selection)
-
--- 16: "register image not 208 bytes"
-abbrev pub WrongImage : List ℕ → Type 0
-WrongImage image = ¬ (length image ≡ 208)
+use Rattle.laws.specs.Rows.{Row, ReservedBit, Case8, Case9, Case10, Case11, Faultless, Updates, NoBand, NoSize, WrongOutput, WrongTables, WrongPictures, NotSelected, BankActive, BankFull, WrongImage}
+use Rattle.laws.proofs.CheckRows.{check-7, check-8, check-9, check-10, check-11, check-0, check-misses}
 
 -- ---- write, select and toggle
 

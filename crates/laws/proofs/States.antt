@@ -1,11 +1,11 @@
 -- What painting refuses in the states that come to be: until a start has let words in, everything
 -- with 12; from then on only what the caller hands over, a band's ends and its buffers. Assumes nothing.
 use Prim.Native.Nat.{ℕ, _≤_}
-use mathlib.Core.Path.{_≡_, refl, _∙_}
+use mathlib.Core.Path.{_≡_, _∙_}
 use mathlib.Core.Logic.{_⊎_, ⊎-elim}
 use mathlib.Core.List.{List}
 use borrow.Author.Tests.{eq-eqb, le-leb}
-use lib.ListN.{length, replicate}
+use lib.ListN.{length}
 use Rattle.lists.specs.Choice.{orElse}
 use Rattle.answers.specs.Answers.{done, noSize}
 use Rattle.words.specs.Check.{checkOf}

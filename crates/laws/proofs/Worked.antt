@@ -1,14 +1,13 @@
 -- The laws at work on screens of 2 by 1 pixels, and screens that break them where a hypothesis is
 -- dropped, by computing. Assumes nothing.
 use mathlib.Core.Path.{_≡_, refl, sym, _∙_}
-use mathlib.Core.Bool.{true}
 use mathlib.Core.Logic.{⊎-elim}
 use mathlib.Core.List.{List, [], _∷_, _++_}
 use Prim.Native.Nat.{ℕ, zero, suc, _+_, _*_, _≤_, _<_}
 use native.Mathlib.Omega.{arith}
 use borrow.Author.Tests.{ne-eqb}
 use lib.Dec.{eqb}
-use lib.ListN.{length, getD, set, replicate, length-replicate}
+use lib.ListN.{getD, replicate, length-replicate}
 use lib.Seq.{getD-append-add}
 use Rattle.lists.specs.Choice.{pick}
 use Rattle.lists.specs.Tab.{tab, each}
@@ -26,7 +25,7 @@ use Rattle.paint.specs.Pixel.{pictureAt, ownAt, alphaAt, covers, overAt}
 use Rattle.paint.specs.Band.{layerStep, depthStep, bandBy, bandByte, bandOf}
 use Rattle.paint.specs.Frame.{fillByte, fillOf, frameOf}
 use Rattle.paint.proofs.LineLaws.{covers-covered}
-use Rattle.laws.specs.Painting.{Ready, IsLayer, OnScreen, channelAt, withWords, Neighbours, withDepth, exchanged, OpaqueAt, OtherUnder, Clear, withOff, without, OfBytes, leastStep, greatestStep, leastAt, greatestAt}
+use Rattle.laws.specs.Painting.{Ready, OnScreen, channelAt, withWords, Neighbours, withDepth, exchanged, OpaqueAt, OtherUnder, Clear, withOff, without, OfBytes, leastStep, greatestStep, leastAt, greatestAt}
 use Rattle.laws.proofs.LayerLaws.{layer-other}
 use Rattle.laws.proofs.Exchange.{exchange}
 use Rattle.laws.proofs.Opaque.{opaque-under}

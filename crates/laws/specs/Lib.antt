@@ -4,3 +4,4 @@ pub mod Figures
 pub mod States
 pub mod Small
 pub mod Impostors
+pub mod Rows

@@ -1,0 +1,118 @@
+-- The rows of 01 "Answers by number": what a row says, and the case of each number. `proofs/Rows.antt`
+-- shows a row of each call. Assumes nothing.
+use Prim.Native.Nat.{ℕ, _+_, _*_, _<_}
+use mathlib.Core.Path.{_≡_}
+use mathlib.Core.Bool.{true, false}
+use mathlib.Core.Logic.{_⊎_}
+use mathlib.Core.List.{List}
+use lib.Bits.{bitAnd}
+use lib.ListN.{getD, length}
+use Rattle.words.specs.Fields.{updateOf, widthOf, heightOf, layerOf}
+use Rattle.words.specs.Check.{reservedBits}
+use Rattle.words.specs.Pictures.{picturesLen}
+use Rattle.tables.specs.Geometry.{tablesLen}
+use Rattle.tables.specs.Selection.{endOf, namedBy}
+use Rattle.display.specs.declared.Display.{Display}
+
+-- a row of the table: "No.", "Given exactly when", "Leaves"
+pub record Row (answer number : ℕ) (Case Left : Type 0) : Type 0 where
+  pub only : answer ≡ number → Case
+  pub when : Case → answer ≡ number
+  pub leaves : answer ≡ number → Left
+
+-- ---- the cases, of the words w
+
+-- 7: "a reserved bit is set in any pending word"
+abbrev pub ReservedBit : List ℕ → Type 0
+ReservedBit w = (i : ℕ) × (i < 52) × ¬ (bitAnd (getD w i 0) (getD reservedBits i 0) ≡ 0)
+
+-- 8: "output width or height 0"
+abbrev pub EmptyScreen : List ℕ → Type 0
+EmptyScreen w = (widthOf w ≡ 0) ⊎ (heightOf w ≡ 0)
+
+abbrev pub Enabled : List ℕ → ℕ → Type 0
+Enabled w n = layerOf w n .on ≡ true
+
+-- 9: "enabled layer with width or height 0"
+abbrev pub EmptyLayer : List ℕ → ℕ → Type 0
+EmptyLayer w n = Enabled w n × ((layerOf w n .width ≡ 0) ⊎ (layerOf w n .height ≡ 0))
+
+-- 10: "enabled layer with x+width > output width, or y+height > output height"
+abbrev pub OffScreen : List ℕ → ℕ → Type 0
+OffScreen w n =
+    Enabled w n × ((widthOf w < layerOf w n .x + layerOf w n .width) ⊎ (heightOf w < layerOf w n .y + layerOf w n .height))
+
+-- layer n gives neither
+abbrev pub Passes : List ℕ → ℕ → Type 0
+Passes w n = (¬ EmptyLayer w n) × (¬ OffScreen w n)
+
+-- "then layers 0 to 7 each 9 then 10": the first layer that does not pass has the case P
+abbrev pub FirstLayer : List ℕ → (ℕ → Type 0) → Type 0
+FirstLayer w P = (n : ℕ) × (n < 8) × P n × ((m : ℕ) → m < n → Passes w m)
+
+abbrev pub AllPass : List ℕ → Type 0
+AllPass w = (n : ℕ) → n < 8 → Passes w n
+
+-- 11: "two enabled layers of one depth"
+abbrev pub SameDepth : List ℕ → Type 0
+SameDepth w = (n : ℕ) × (m : ℕ) × (m < n) × (n < 8) × Enabled w n × Enabled w m × (layerOf w n .depth ≡ layerOf w m .depth)
+
+-- ---- the cases in order: "Start 7, 8, then layers 0 to 7 each 9 then 10, then 11."
+
+abbrev pub Case8 : List ℕ → Type 0
+Case8 w = (¬ ReservedBit w) × EmptyScreen w
+
+abbrev pub Case9 : List ℕ → Type 0
+Case9 w = (¬ ReservedBit w) × ((¬ EmptyScreen w) × FirstLayer w (EmptyLayer w))
+
+abbrev pub Case10 : List ℕ → Type 0
+Case10 w = (¬ ReservedBit w) × ((¬ EmptyScreen w) × FirstLayer w (λ n. (¬ EmptyLayer w n) × OffScreen w n))
+
+abbrev pub Case11 : List ℕ → Type 0
+Case11 w = (¬ ReservedBit w) × ((¬ EmptyScreen w) × (AllPass w × SameDepth w))
+
+-- none of 7 to 11
+abbrev pub Faultless : List ℕ → Type 0
+Faultless w = (¬ ReservedBit w) × ((¬ EmptyScreen w) × (AllPass w × (¬ SameDepth w)))
+
+-- ---- the cases, beside the check's: w are the active words, or the host's
+
+-- "if the pending update bit is set"
+abbrev pub Updates : Display → Type 0
+Updates d = updateOf (d .pending) ≡ true
+
+-- 15: "lower end above upper, or upper above 8"
+abbrev pub NoBand : ℕ → ℕ → Type 0
+NoBand a b = (b < a) ⊎ (8 < b)
+
+-- 12: "active output size still 0"
+abbrev pub NoSize : List ℕ → Type 0
+NoSize w = (widthOf w ≡ 0) ⊎ (heightOf w ≡ 0)
+
+-- 13: "output not 4·width·height bytes"
+abbrev pub WrongOutput : List ℕ → List ℕ → Type 0
+WrongOutput w out = ¬ (length out ≡ 4 * (widthOf w * heightOf w))
+
+-- 6: "tables not 29,696 bytes"
+abbrev pub WrongTables : List ℕ → Type 0
+WrongTables tables = ¬ (length tables ≡ tablesLen)
+
+-- 14: "pictures of the wrong total length"
+abbrev pub WrongPictures : List ℕ → List ℕ → Type 0
+WrongPictures w pictures = ¬ (length pictures ≡ picturesLen w)
+
+-- 3: "nothing selected"
+abbrev pub NotSelected : Display → Type 0
+NotSelected d = d .selected ≡ false
+
+-- 4: "the active word 3 names the selected bank"
+abbrev pub BankActive : Display → Type 0
+BankActive d = namedBy (d .active) (d .selection) ≡ true
+
+-- 5: "place is at the kind's end"
+abbrev pub BankFull : Display → Type 0
+BankFull d = d .place ≡ endOf (d .selection)
+
+-- 16: "register image not 208 bytes"
+abbrev pub WrongImage : List ℕ → Type 0
+WrongImage image = ¬ (length image ≡ 208)
