@@ -16,7 +16,8 @@ become() {
 
 # need COMMAND PACKAGE..: gets a command from Debian's packages where it is missing.
 need() {
-    command -v "$1" >/dev/null || { apt-get update -q && apt-get install -y -q "${@:2}"; }
+    local apt="apt-get -q -o Acquire::Retries=5"
+    command -v "$1" >/dev/null || { $apt update && $apt install -y "${@:2}"; }
 }
 
 # link_host PROGRAM SOURCE..: C sources with the entry's archive, which is proved and built first.
