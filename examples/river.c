@@ -7,6 +7,7 @@
 #include <string.h>
 
 #include "pictures.h"
+#include "registers.h"
 #include "spoonwing.h"
 #include "tables.h"
 
@@ -15,13 +16,6 @@ enum { WIDTH = 640, HEIGHT = 360, FRAME = 1045 };
 /* Layers by number. What lies on top goes by depth, so the numbers may be in any order; pictures
  * follow each other in the order of these numbers. */
 enum { TITLE, GAUGE, CAPTION, SKY, WATER, BIRD, LAYERS };
-
-struct layer {
-    uint32_t is_graphics, depth;
-    uint32_t x, y, width, height;
-    uint32_t has_global_alpha, alpha;
-    uint32_t fade_start, fade_length, fade_target;
-};
 
 static const struct layer SCENE[LAYERS] = {
     [SKY] = {.depth = 0, .width = SKY_WIDTH, .height = SKY_HEIGHT},
@@ -46,25 +40,13 @@ static uint8_t output[PIXEL * WIDTH * HEIGHT];
 
 /* ---- registers */
 
-static void put_layer(uint8_t *words, const struct layer *l)
-{
-    put_word(words, 1 | l->is_graphics << 1 | l->depth << 8);
-    put_word(words + 4, l->has_global_alpha << 31 | l->alpha);
-    put_word(words + 8, l->y << 16 | l->x);
-    put_word(words + 12, l->height << 16 | l->width);
-    put_word(words + 16, l->fade_start);
-    put_word(words + 20, l->fade_target << 16 | l->fade_length);
-}
-
-/* Word 3 stays 0, so bank 0 of every table is active, and layers 6 and 7 stay off. */
+/* Layers 6 and 7 stay off. */
 static void make_image(void)
 {
-    const uint32_t red = 30, green = 62, blue = 88;
-    put_word(image, 1);
-    put_word(image + 4, HEIGHT << 16 | WIDTH);
-    put_word(image + 8, blue << 16 | green << 8 | red);
+    static const uint8_t ground[] = {30, 62, 88};
+    put_screen(image, WIDTH, HEIGHT, ground);
     for (int n = 0; n < LAYERS; n++)
-        put_layer(image + 4 * (4 + 6 * n), &SCENE[n]);
+        put_layer(image, n, &SCENE[n]);
 }
 
 /* ---- tables */
