@@ -11,8 +11,8 @@ struct layer {
     uint32_t fade_start, fade_length, fade_target;
 };
 
-/* The display on, its size and the background's red, green and blue. The image is all zero at first,
- * so bank 0 of every table is active. */
+/* The display on, its size and the background's red, green and blue. The image is all zero at
+ * first, so bank 0 of every table is active. */
 void put_screen(uint8_t *image, uint32_t width, uint32_t height, const uint8_t ground[3]);
 
 /* Layer n, enabled; a layer that is not put stays off. */

@@ -20,11 +20,18 @@ need() {
     command -v "$1" >/dev/null || { $apt update && $apt install -y "${@:2}"; }
 }
 
-# link_host PROGRAM SOURCE..: C sources with the entry's archive, which is proved and built first.
-link_host() {
+# compiler: the name of a C compiler for x86-64, which is got where it is missing.
+compiler() {
     local cc=gcc packages="gcc libc6-dev"
     is_x86 || cc=x86_64-linux-gnu-gcc packages="gcc-x86-64-linux-gnu libc6-dev-amd64-cross"
-    need "$cc" $packages
+    need "$cc" $packages >&2
+    echo "$cc"
+}
+
+# link_host PROGRAM SOURCE..: C sources with the entry's archive, which is proved and built first.
+link_host() {
+    local cc
+    cc=$(compiler)
     (cd "$top" && rt staticlib host)
     "$cc" -std=c99 -O2 -Wall -Wextra -Werror -static -I "$top/include" -o "$1" "${@:2}" \
         "$top/target/staticlib/libhost.a"

@@ -1,0 +1,118 @@
+/* Written from document 01's "Graphics layers". Ends are included throughout, as a box's are. */
+#include <stddef.h>
+#include <string.h>
+
+#include "list.h"
+
+enum { INSTRUCTIONS = 48, INSTRUCTION_LENGTH = 16 };
+enum { STRINGS_AT = 832, STRINGS = 8, STRING_LENGTH = 32 };
+enum { FONT_AT = 1088, GLYPH_SIDE = 8, FIRST_GLYPH = 32, LAST_GLYPH = 127 };
+enum { END = 0, BOX = 10, TEXT = 12, BOX_AND_TEXT = 14 };
+
+struct plane {
+    uint8_t *indexes;
+    uint32_t width, height;
+};
+
+struct box {
+    uint32_t x0, x1, y0, y1;
+};
+
+static uint32_t word_at(const uint8_t *bytes)
+{
+    return bytes[0] | bytes[1] << 8 | bytes[2] << 16 | (uint32_t)bytes[3] << 24;
+}
+
+/* ---- boxes */
+
+/* As far as the plane goes. */
+static void fill_box(const struct plane *plane, struct box box, uint8_t colour)
+{
+    if (box.x1 >= plane->width)
+        box.x1 = plane->width - 1;
+    if (box.y1 >= plane->height)
+        box.y1 = plane->height - 1;
+    if (box.x0 > box.x1)
+        return;
+    for (uint32_t y = box.y0; y <= box.y1; y++)
+        memset(plane->indexes + (size_t)y * plane->width + box.x0, colour, box.x1 - box.x0 + 1);
+}
+
+/* The four sides, each as thick as the weight; they meet where the box is thin. */
+static void outline(const struct plane *plane, struct box b, uint32_t weight, uint8_t colour)
+{
+    if (b.x1 - b.x0 < 2 * weight || b.y1 - b.y0 < 2 * weight) {
+        fill_box(plane, b, colour);
+        return;
+    }
+    fill_box(plane, (struct box){b.x0, b.x1, b.y0, b.y0 + weight - 1}, colour);
+    fill_box(plane, (struct box){b.x0, b.x1, b.y1 - weight + 1, b.y1}, colour);
+    fill_box(plane, (struct box){b.x0, b.x0 + weight - 1, b.y0, b.y1}, colour);
+    fill_box(plane, (struct box){b.x1 - weight + 1, b.x1, b.y0, b.y1}, colour);
+}
+
+static void draw_box(const struct plane *plane, const uint8_t *instruction)
+{
+    uint32_t across = word_at(instruction), down = word_at(instruction + 8);
+    struct box box = {across & 4095, across >> 12 & 4095, down & 4095, down >> 12 & 4095};
+    uint32_t weight = down >> 24 & 15;
+    uint8_t colour = instruction[12] & 15;
+    if (box.x0 > box.x1 || box.y0 > box.y1)
+        return;
+    if (weight == 0)
+        fill_box(plane, box, colour);
+    else
+        outline(plane, box, weight, colour);
+}
+
+/* ---- text */
+
+static void draw_glyph_row(const struct plane *plane, uint8_t bits, uint32_t x, uint32_t y,
+                           uint32_t side, uint8_t colour)
+{
+    for (uint32_t i = 0; i < GLYPH_SIDE; i++) {
+        uint32_t left = x + i * side;
+        if (bits >> (GLYPH_SIDE - 1 - i) & 1)
+            fill_box(plane, (struct box){left, left + side - 1, y, y + side - 1}, colour);
+    }
+}
+
+static void draw_glyph(const struct plane *plane, const uint8_t *glyph, uint32_t x, uint32_t y,
+                       uint32_t side, uint8_t colour)
+{
+    for (uint32_t row = 0; row < GLYPH_SIDE; row++)
+        draw_glyph_row(plane, glyph[row], x, y + row * side, side, colour);
+}
+
+static void draw_text(const struct plane *plane, const uint8_t *bank, const uint8_t *instruction)
+{
+    uint32_t x = word_at(instruction) & 4095, down = word_at(instruction + 8);
+    uint32_t y = down & 4095, side = UINT32_C(1) << (down >> 30);
+    uint8_t number = instruction[4], colour = instruction[13] & 15;
+    if (number >= STRINGS)
+        return;
+    const uint8_t *string = bank + STRINGS_AT + STRING_LENGTH * number;
+    for (int i = 0; i < STRING_LENGTH && string[i] != 0; i++, x += GLYPH_SIDE * side) {
+        const uint8_t *glyph = bank + FONT_AT + GLYPH_SIDE * (string[i] - FIRST_GLYPH);
+        if (string[i] >= FIRST_GLYPH && string[i] <= LAST_GLYPH)
+            draw_glyph(plane, glyph, x, y, side, colour);
+    }
+}
+
+/* ---- the list */
+
+void draw_list(const uint8_t *bank, uint32_t width, uint32_t height, uint8_t *indexes)
+{
+    struct plane plane = {indexes, width, height};
+    memset(indexes, 0, (size_t)width * height);
+    for (int k = 0; k < INSTRUCTIONS; k++) {
+        const uint8_t *instruction = bank + INSTRUCTION_LENGTH * k;
+        uint32_t opcode = word_at(instruction) >> 28;
+        if (opcode == END)
+            return;
+        if (opcode == BOX || opcode == BOX_AND_TEXT)
+            draw_box(&plane, instruction);
+        if (opcode == TEXT || opcode == BOX_AND_TEXT)
+            draw_text(&plane, bank, instruction);
+    }
+}

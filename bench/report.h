@@ -1,0 +1,27 @@
+/* The tables that the bench prints. */
+#ifndef REPORT_H
+#define REPORT_H
+
+/* Compares each painter's bytes with the formula's, and ends the program where they are wrong. */
+void print_bytes(void);
+
+/* How deep spoonwing_frame reaches into the stack. */
+void print_stack(void);
+
+/* spoonwing_frame's time as a part of each other painter's. */
+void print_ratios(void);
+
+/* What doubling the pixels, the layers or the instructions costs. */
+void print_growth(void);
+
+/* Paints scene k of those to be counted once and prints its name and pixels, with a tab between;
+ * answers 0 where there is no such scene. */
+int paint_counted(int k);
+
+/* A cell with a number and, where one is wanted, the most that it may be. */
+void print_cell(double number, double wanted);
+
+/* How many numbers so far were more than wanted. */
+int misses(void);
+
+#endif

@@ -1,0 +1,53 @@
+/* What a painter is given: a screen and its layers in rising depth, the same as buffers of the C
+ * entry, and each layer as pixels for painters that know pictures only. */
+#ifndef SCENE_H
+#define SCENE_H
+
+#include <stddef.h>
+#include <stdint.h>
+
+#include "registers.h"
+#include "spoonwing.h"
+#include "tables.h"
+
+enum { PIXEL = 4, MOST_LAYERS = 8 };
+
+struct scene {
+    uint32_t width, height, frame;
+    uint8_t ground[3];
+    int layers;
+    struct layer layer[MOST_LAYERS];
+    uint8_t alpha[MOST_LAYERS];   /* with global alpha: what the fade gives at the frame */
+    uint8_t *pixels[MOST_LAYERS]; /* its picture, or what its list draws */
+    uint8_t *pictures;
+    size_t pictures_length;
+    uint8_t image[SPOONWING_IMAGE_LENGTH];
+    uint8_t tables[SPOONWING_TABLES_LENGTH];
+};
+
+/* The alphas of a picture's pixels. With one for the layer the pixels' own are random and do not
+ * count. */
+enum look { RANDOM_ALPHA, OPAQUE, ONE_ALPHA };
+
+/* A screen covered by pictures of random channels, the same bytes in every run. Lists may be added,
+ * and then it is to be sealed. */
+struct scene *new_scene(uint32_t width, uint32_t height, int pictures, enum look look);
+
+/* A graphics layer on top of the others, all but its depth given, and its bank. */
+struct bank add_list(struct scene *scene, struct layer layer);
+
+/* Works out what follows from the layers: the register image, the alphas, the lists as pixels. */
+struct scene *sealed(struct scene *scene);
+
+void drop_scene(struct scene *scene);
+
+/* The bank of a graphics layer. */
+const uint8_t *bank_of(const struct scene *scene, int layer);
+
+size_t frame_length(const struct scene *scene);
+
+/* Memory that begins a page, so that no painter is favoured by where its buffers lie; the program
+ * ends where there is none. */
+void *room(size_t length);
+
+#endif

@@ -1,0 +1,24 @@
+/* The scenes that are painted, each for a screen of any size. */
+#ifndef SCENES_H
+#define SCENES_H
+
+#include "scene.h"
+
+/* One picture over the whole screen. */
+struct scene *random_picture(uint32_t width, uint32_t height);
+struct scene *one_alpha_picture(uint32_t width, uint32_t height);
+struct scene *opaque_picture(uint32_t width, uint32_t height);
+
+/* An opaque picture under three captions of boxes and text, one half way through its fade. */
+struct scene *museum(uint32_t width, uint32_t height);
+
+/* So many pictures of random alpha, each over the whole screen. */
+struct scene *stack_of(uint32_t width, uint32_t height, int pictures);
+struct scene *eight_layers(uint32_t width, uint32_t height);
+
+/* A graphics layer over the whole screen with so many instructions, each of which draws: boxes,
+ * outlines, text, and boxes with text, at every scale. */
+struct scene *list_of(uint32_t width, uint32_t height, int instructions);
+struct scene *full_list(uint32_t width, uint32_t height);
+
+#endif

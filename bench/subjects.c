@@ -1,0 +1,17 @@
+/* The ratios wanted are those of the bench's own order. */
+#include "scenes.h"
+#include "subjects.h"
+
+const struct size SIZE[SIZES] = {{1920, 1080}, {640, 360}};
+
+const struct painter *const PAINTER[PAINTERS] = {
+    &SPOONWING, &PLAIN_C, &SDL2, &PIXMAN_STRAIGHT, &PIXMAN_PREMULTIPLIED, &FLOOR};
+
+const struct subject SUBJECT[SUBJECTS] = {
+    {"picture, random alpha", random_picture, {0, 0.30, 0.30, 0.60, 1.10, 0}},
+    {"picture, global alpha", one_alpha_picture, {0, 0.25, 0.50, 0, 0.90, 0}},
+    {"museum scene", museum, {0, 0.30, 0.40, 0.40, 1.00, 0}},
+    {"eight layers", eight_layers, {0, 0.35, 0.35, 0.60, 1.10, 0}},
+    {"48 live instructions", full_list, {0}},
+    {"picture, opaque", opaque_picture, {0}},
+};

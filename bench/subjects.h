@@ -1,0 +1,27 @@
+/* What is painted by whom at which sizes, and how fast it is wanted. */
+#ifndef SUBJECTS_H
+#define SUBJECTS_H
+
+#include "painter.h"
+
+enum { SIZES = 2, SUBJECTS = 6, PAINTERS = 6 };
+
+struct size {
+    uint32_t width, height;
+};
+
+struct subject {
+    const char *name;
+    struct scene *(*make)(uint32_t width, uint32_t height);
+    /* The most that spoonwing_frame's time may be, as a part of each painter's; 0 where nothing is
+     * asked. */
+    double wanted[PAINTERS];
+};
+
+extern const struct size SIZE[SIZES];
+extern const struct subject SUBJECT[SUBJECTS];
+
+/* spoonwing_frame first, then those that it is compared with, the floor last. */
+extern const struct painter *const PAINTER[PAINTERS];
+
+#endif
