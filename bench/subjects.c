@@ -1,4 +1,4 @@
-/* The ratios wanted are those of the bench's own order. */
+/* The ratios wanted stand in the order of the painters; docs/SPEED.md has them as a table. */
 #include "scenes.h"
 #include "subjects.h"
 
