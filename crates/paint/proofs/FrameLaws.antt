@@ -67,7 +67,7 @@ fill-long w out e = eqb-true _ _ (lets-through (eqb out (frameLen w)) 12 (orElse
 
 -- ---- a filled output
 
-fill-byte : (w : List ℕ) (i : ℕ) → span.fillByte (groundOf w 0) (groundOf w 1) (groundOf w 2) i ≡ fillByte w i
+pub fill-byte : (w : List ℕ) (i : ℕ) → span.fillByte (groundOf w 0) (groundOf w 1) (groundOf w 2) i ≡ fillByte w i
 unfolding span.pixelByte fillByte
 fill-byte w i = go (i % 4) (omega arith)
   where

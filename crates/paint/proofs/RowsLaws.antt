@@ -1,23 +1,27 @@
 -- From lines to the whole output: byte i stands on line i / S, S = 4 W bytes a line. Assumes nothing.
-use mathlib.Core.Path.{_≡_, _∙_}
+use mathlib.Core.Path.{_≡_, refl, sym, ap, _∙_}
+use mathlib.Core.Bool.{Bool, true, false}
 use mathlib.Core.Logic.{⊎-elim}
-use mathlib.Core.List.{List, _++_}
-use Prim.Native.Nat.{ℕ, _+_, _-_, _*_, _/_, _%_, _≤_, _<_}
+use mathlib.Core.List.{List, [], _∷_, _++_}
+use Prim.Native.Nat.{ℕ, zero, suc, _+_, _-_, _*_, _/_, _%_, _≤_, _<_}
 use native.Mathlib.Nat.{mul-le-mul, mul-comm, mul-assoc, add-mul, one-mul, div-lt-iff-lt-mul, le-div-iff-mul-le}
 use native.Mathlib.Omega.{arith}
 use borrow.Author.Tests.{eq-eqb, ne-eqb, lt-ltb, le-ltb}
 use lib.Arith.{digits-div, digits-mod}
 use lib.Dec.{eqb}
 use lib.ListN.{length, take, drop}
-use Rattle.lists.specs.Choice.{pick}
-use Rattle.lists.specs.Tab.{each}
-use Rattle.lists.proofs.Choice.{split, same-or}
-use Rattle.lists.proofs.Tab.{each-id, each-cong-below, each-then, each-part}
-use Rattle.words.specs.Fields.{widthOf, heightOf}
+use Rattle.lists.specs.Choice.{pick, pickList}
+use Rattle.lists.specs.Tab.{tab, each}
+use Rattle.lists.proofs.Choice.{split, same-or, pick-cong}
+use Rattle.lists.proofs.Tab.{each-id, each-cong, each-each, each-cong-below, each-then, each-part}
+use Rattle.words.specs.declared.fields.Ground.{Ground}
+use Rattle.words.specs.Fields.{widthOf, heightOf, groundsOf}
+use Rattle.span.specs.Span as span
 use Rattle.paint.specs.Scene.{Scene}
 use Rattle.paint.specs.Band.{bandByte}
-use Rattle.paint.specs.Frame.{frameLen}
-use Rattle.paint.specs.Lines.{bandLine, rowsByte}
+use Rattle.paint.specs.Frame.{frameLen, fillByte, fillOf}
+use Rattle.paint.specs.Lines.{bandLine, groundByte, laidByte, laidLine, rowsByte}
+use Rattle.paint.proofs.FrameLaws.{fill-byte}
 
 -- a line of S bytes ends where the next begins
 pub line-room : (y h S : ℕ) → y < h → y * S + S ≤ h * S
@@ -32,9 +36,9 @@ frame-lines W H = omega (arith, mul-comm W H, mul-assoc H 4 W, mul-comm H 4, mul
 four : (y W : ℕ) → y * (4 * W) ≡ 4 * (y * W)
 four y W = omega (arith, mul-assoc y 4 W, mul-comm y 4, mul-assoc 4 y W)
 
-module _ (s : Scene) (a b : ℕ) (wide : 0 < widthOf (s .words)) where
-  byte-on : (y i p : ℕ) → i < 4 * widthOf (s .words) → bandByte s a b (y * (4 * widthOf (s .words)) + i) p ≡ bandLine s a b y i p
-  unfolding bandByte bandLine
+module _ (s : Scene) (a b : ℕ) (fresh : Bool) (wide : 0 < widthOf (s .words)) where
+  byte-on : (y i p : ℕ) → i < 4 * widthOf (s .words) → laidByte s a b fresh (y * (4 * widthOf (s .words)) + i) p ≡ laidLine s a b fresh y i p
+  unfolding laidByte laidLine bandByte bandLine fillByte
   byte-on y i p h =
       let W = widthOf (s .words) in
       let q : (y * (4 * W) + i) % 4 ≡ i % 4 = omega (arith, four y W) in
@@ -46,9 +50,9 @@ module _ (s : Scene) (a b : ℕ) (wide : 0 < widthOf (s .words)) where
 
   -- line y alone
   rowByte : ℕ → ℕ → ℕ → ℕ
-  rowByte y i p = pick (eqb (i / (4 * widthOf (s .words))) y) (bandByte s a b i p) p
+  rowByte y i p = pick (eqb (i / (4 * widthOf (s .words))) y) (laidByte s a b fresh i p) p
 
-  row-here : (y i p : ℕ) → i < 4 * widthOf (s .words) → rowByte y (y * (4 * widthOf (s .words)) + i) p ≡ bandLine s a b y i p
+  row-here : (y i p : ℕ) → i < 4 * widthOf (s .words) → rowByte y (y * (4 * widthOf (s .words)) + i) p ≡ laidLine s a b fresh y i p
   unfolding rowByte
   row-here y i p h =
       rw (eq-eqb _ _ (digits-div y {m = 4 * widthOf (s .words)} {r = i} h)) (byte-on y i p h)
@@ -57,7 +61,7 @@ module _ (s : Scene) (a b : ℕ) (wide : 0 < widthOf (s .words)) where
   unfolding rowByte
   row-other y i p ne = rw (ne-eqb _ _ ne)
 
-  rows-more : (y i p : ℕ) → rowsByte s a b (y + 1) i p ≡ rowByte y i (rowsByte s a b y i p)
+  rows-more : (y i p : ℕ) → rowsByte s a b fresh (y + 1) i p ≡ rowByte y i (rowsByte s a b fresh y i p)
   unfolding rowsByte rowByte
   rows-more y i p = ⊎-elim
       (λ (e : i / (4 * widthOf (s .words)) ≡ y). rw (lt-ltb (i / (4 * widthOf (s .words))) (y + 1) (omega arith), le-ltb (i / (4 * widthOf (s .words))) y (omega arith), eq-eqb _ _ e))
@@ -67,27 +71,27 @@ module _ (s : Scene) (a b : ℕ) (wide : 0 < widthOf (s .words)) where
       (split (i / (4 * widthOf (s .words))) y))
       (same-or (i / (4 * widthOf (s .words))) y)
 
-  pub rows-none : (out : List ℕ) → out ≡ each (rowsByte s a b 0) out
+  pub rows-none : (out : List ℕ) → out ≡ each (rowsByte s a b fresh 0) out
   unfolding rowsByte
   rows-none out = each-id _ out (λ i p. rw (le-ltb (i / (4 * widthOf (s .words))) 0 (omega arith)))
 
-  pub rows-next : (y : ℕ) (out line out₀ : List ℕ) → y * (4 * widthOf (s .words)) + 4 * widthOf (s .words) ≤ length out → out ≡ each (rowsByte s a b y) out₀
-      → (let S = 4 * widthOf (s .words) in line ≡ each (bandLine s a b y) (take (y * S + S - y * S) (drop (y * S) out))
-      → take (y * S) out ++ (line ++ drop (y * S + S - y * S) (drop (y * S) out)) ≡ each (rowsByte s a b (y + 1)) out₀)
+  pub rows-next : (y : ℕ) (out line out₀ : List ℕ) → y * (4 * widthOf (s .words)) + 4 * widthOf (s .words) ≤ length out → out ≡ each (rowsByte s a b fresh y) out₀
+      → (let S = 4 * widthOf (s .words) in line ≡ each (laidLine s a b fresh y) (take (y * S + S - y * S) (drop (y * S) out))
+      → take (y * S) out ++ (line ++ drop (y * S + S - y * S) (drop (y * S) out)) ≡ each (rowsByte s a b fresh (y + 1)) out₀)
   rows-next y out line out₀ fits e f =
       let S = 4 * widthOf (s .words) in
       let q : y * S + S - y * S ≡ S = omega arith in
-      each-then (rowsByte s a b y) (rowByte y) _ out₀ e
+      each-then (rowsByte s a b fresh y) (rowByte y) _ out₀ e
       (rw q
-      (each-part (rowByte y) (bandLine s a b y) out line (y * S) S fits (rw q at f)
+      (each-part (rowByte y) (laidLine s a b fresh y) out line (y * S) S fits (rw q at f)
       (λ i p h. row-here y i p h)
       (λ i p lt. row-other y i p (λ (z : i / S ≡ y). let k : i / S < y = div-lt-iff-lt-mul {k = S} (omega arith) .1 lt in omega arith))
       (λ i p ge _. row-other y i p (λ (z : i / S ≡ y).
       let k : y + 1 ≤ i / S = le-div-iff-mul-le {k = S} (omega arith) .1 (omega (arith, add-mul y 1 S, one-mul S)) in omega arith))))
       (λ i p. rows-more y i p)
 
-  pub rows-all : (y : ℕ) (out out₀ : List ℕ) → heightOf (s .words) ≤ y → length out₀ ≡ frameLen (s .words) → out ≡ each (rowsByte s a b y) out₀
-      → out ≡ each (bandByte s a b) out₀
+  pub rows-all : (y : ℕ) (out out₀ : List ℕ) → heightOf (s .words) ≤ y → length out₀ ≡ frameLen (s .words) → out ≡ each (rowsByte s a b fresh y) out₀
+      → out ≡ each (laidByte s a b fresh) out₀
   unfolding rowsByte
   rows-all y out out₀ h long e =
       e ∙ each-cong-below _ _ out₀ (λ i lt.
@@ -96,10 +100,52 @@ module _ (s : Scene) (a b : ℕ) (wide : 0 < widthOf (s .words)) where
       rw (lt-ltb (i / S) y (omega arith)))
 
   -- as the code has it, with the stride and the height in variables
-  pub rows-lent : (S y : ℕ) (out line out₀ : List ℕ) → S ≡ 4 * widthOf (s .words) → y * S + S ≤ length out → out ≡ each (rowsByte s a b y) out₀
-      → line ≡ each (bandLine s a b y) (take (y * S + S - y * S) (drop (y * S) out))
-      → take (y * S) out ++ (line ++ drop (y * S + S - y * S) (drop (y * S) out)) ≡ each (rowsByte s a b (y + 1)) out₀
+  pub rows-lent : (S y : ℕ) (out line out₀ : List ℕ) → S ≡ 4 * widthOf (s .words) → y * S + S ≤ length out → out ≡ each (rowsByte s a b fresh y) out₀
+      → line ≡ each (laidLine s a b fresh y) (take (y * S + S - y * S) (drop (y * S) out))
+      → take (y * S) out ++ (line ++ drop (y * S + S - y * S) (drop (y * S) out)) ≡ each (rowsByte s a b fresh (y + 1)) out₀
   rows-lent S y out line out₀ q fits e f = rw q (rows-next y out line out₀ (rw q at fits) e (rw q at f))
 
 pub rows-room : (S y h W H n : ℕ) → S ≡ 4 * W → y < h → h ≡ H → n ≡ 4 * (W * H) → y * S + S ≤ n
 rows-room S y h W H n q lt e f = rw q (omega (arith, line-room y H (4 * W) (omega arith), frame-lines W H))
+
+-- ---- the ground
+
+pub ground-kept : (g : Ground) (out : List ℕ) → out ≡ each (groundByte g false) out
+unfolding groundByte
+ground-kept g out = each-id _ out (λ i p. refl)
+
+tab-each : (f : ℕ → ℕ) (l : List ℕ) → tab (length l) f ≡ each (λ i p. f i) l
+unfolding tab each
+tab-each f [] = refl
+tab-each f (p ∷ l) = ap (λ (y : List ℕ). f zero ∷ y) (tab-each (λ i. f (suc i)) l)
+
+pub ground-filled : (g : Ground) (out : List ℕ) → tab (length out) (span.fillByte (g .c0) (g .c1) (g .c2)) ≡ each (groundByte g true) out
+unfolding groundByte
+ground-filled g out = tab-each _ out
+
+-- by the words' background
+ground-byte : (w : List ℕ) (fresh : Bool) (i p : ℕ) → groundByte (groundsOf w) fresh i p ≡ pick fresh (fillByte w i) p
+unfolding groundByte
+ground-byte w fresh i p = pick-cong fresh (λ t. fill-byte w i) (λ t. refl)
+
+-- of a line, with the band over it
+pub ground-line : (s : Scene) (a b : ℕ) (fresh : Bool) (y : ℕ) (g : Ground) (line laid line′ : List ℕ) → g ≡ groundsOf (s .words)
+    → laid ≡ each (groundByte g fresh) line → line′ ≡ each (bandLine s a b y) laid → line′ ≡ each (laidLine s a b fresh y) line
+unfolding laidLine
+ground-line s a b fresh y g line laid line′ q e f =
+    each-then (groundByte (groundsOf (s .words)) fresh) (bandLine s a b y) _ line (rw q at e) f
+    (λ i p. ap (bandLine s a b y i) (sym (ground-byte (s .words) fresh i p)))
+
+-- of the whole output, and with the band over it
+pub ground-all : (w : List ℕ) (fresh : Bool) (out : List ℕ) → length out ≡ frameLen w → each (groundByte (groundsOf w) fresh) out ≡ pickList fresh (fillOf w) out
+unfolding fillOf
+ground-all w true out e =
+    each-cong _ _ out (λ i p. ground-byte w true i p) ∙ sym (tab-each (fillByte w) out) ∙ ap (λ (n : ℕ). tab n (fillByte w)) e
+ground-all w false out e = sym (ground-kept (groundsOf w) out)
+
+pub laid-band : (s : Scene) (a b : ℕ) (fresh : Bool) (out : List ℕ) → length out ≡ frameLen (s .words)
+    → each (laidByte s a b fresh) out ≡ each (bandByte s a b) (pickList fresh (fillOf (s .words)) out)
+unfolding laidByte
+laid-band s a b fresh out e =
+    sym (ap (each (bandByte s a b)) (sym (ground-all (s .words) fresh out e)) ∙ each-each (groundByte (groundsOf (s .words)) fresh) (bandByte s a b) out
+    ∙ each-cong _ _ out (λ i p. ap (bandByte s a b i) (ground-byte (s .words) fresh i p)))

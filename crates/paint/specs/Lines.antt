@@ -2,19 +2,22 @@
 -- definition of the document rests on these. Assumes nothing.
 use Prim.Native.Nat.{ℕ, _+_, _*_, _/_, _%_, _<_, _≤_}
 use mathlib.Core.Path.{_≡_}
-use mathlib.Core.Bool.{true}
+use mathlib.Core.Bool.{Bool, true}
 use mathlib.Core.List.{List}
 use lib.ListN.{length, getD, take}
 use lib.Dec.{eqb, ltb}
 use Rattle.lists.specs.Choice.{pick}
 use Rattle.lists.specs.Steps.{through}
+use Rattle.words.specs.declared.fields.Ground.{Ground}
 use Rattle.words.specs.Fields.{widthOf, layerOf}
 use Rattle.words.specs.Pictures.{picturesLen}
 use Rattle.tables.specs.Geometry.{tablesLen}
+use Rattle.span.specs.Span as span
 use Rattle.paint.specs.declared.plan.Step.{Step}
 use Rattle.paint.specs.Scene.{Scene}
 use Rattle.paint.specs.Pixel.{graphicsAt, overAt}
 use Rattle.paint.specs.Band.{pixelAt, bandByte}
+use Rattle.paint.specs.Frame.{fillByte}
 use Rattle.paint.specs.Plan.{Made}
 
 -- tables and pictures of the right lengths
@@ -60,6 +63,18 @@ lineTo s y l k i p = through (λ n q. lineByte s y n i q) (take k l) p
 unfoldable pub bandLine : Scene → ℕ → ℕ → ℕ → ℕ → ℕ → ℕ
 bandLine s a b y i p = pick (eqb (i % 4) 3) p (pixelAt s (i / 4) y (i % 4) a b p)
 
+-- byte i of a run as its ground has it: filled where the frame is a fresh one, else as it was
+unfoldable pub groundByte : Ground → Bool → ℕ → ℕ → ℕ
+groundByte g fresh i p = pick fresh (span.fillByte (g .c0) (g .c1) (g .c2) i) p
+
+-- the band over what was there, or over the background where the frame is a fresh one: byte i of the
+-- output, and of line y
+unfoldable pub laidByte : Scene → ℕ → ℕ → Bool → ℕ → ℕ → ℕ
+laidByte s a b fresh i p = bandByte s a b i (pick fresh (fillByte (s .words) i) p)
+
+unfoldable pub laidLine : Scene → ℕ → ℕ → Bool → ℕ → ℕ → ℕ → ℕ
+laidLine s a b fresh y i p = bandLine s a b y i (pick fresh (fillByte (s .words) i) p)
+
 -- the output after its first k lines, of 4 W bytes each
-unfoldable pub rowsByte : Scene → ℕ → ℕ → ℕ → ℕ → ℕ → ℕ
-rowsByte s a b k i p = pick (ltb (i / (4 * widthOf (s .words))) k) (bandByte s a b i p) p
+unfoldable pub rowsByte : Scene → ℕ → ℕ → Bool → ℕ → ℕ → ℕ → ℕ
+rowsByte s a b fresh k i p = pick (ltb (i / (4 * widthOf (s .words))) k) (laidByte s a b fresh i p) p

@@ -3,15 +3,17 @@
 ghost use mathlib.Core.Path.{_≡_};
 ghost use Prim.Native.Nat.{_≤_, _<_};
 ghost use lib.ListN.{length};
+ghost use Rattle.lists.specs.Choice.{pickList};
 ghost use Rattle.words.specs.Fields.{widthOf};
 ghost use Rattle.paint.specs.Scene.{sceneOf};
 ghost use Rattle.paint.specs.Band.{bandOf, errorsOf};
-ghost use Rattle.paint.specs.Frame.{frameLen, fillRefusal, fillAfter, paintTold, paintAfter, frameTold, frameAfter};
+ghost use Rattle.paint.specs.Frame.{frameLen, fillOf, fillRefusal, fillAfter, paintTold, paintAfter, frameTold, frameAfter};
 ghost use Rattle.paint.specs.Lines.{Lent};
 use crate::plan::marks_of;
 use crate::plan::plan_of;
 use crate::refusal::fill_refusal;
 use crate::refusal::paint_refusal;
+use crate::rows::lay_ground;
 use crate::rows::paint_rows;
 use answers::DONE;
 use words::fields::ground_of;
@@ -43,27 +45,29 @@ pub fn fill(w: &[u32; 52], out: &mut [u8]) -> u8
     DONE
 }
 
-// The band's layers over what `out` holds, and the error word after it, for buffers of the right
-// lengths. With the display off nothing changes.
+// The band's layers over the ground, and the error word after it, for buffers of the right lengths.
+// With the display off there are no layers.
 fn paint_band(
     w: &[u32; 52],
     frame: u32,
     errors: u32,
     low: u32,
     high: u32,
+    fresh: bool,
     tables: &[u8],
     pictures: &[u8],
     out: &mut [u8],
 ) -> u32
     requires { ⌜ Lent (sceneOf (now w) frame (now tables) (now pictures)) × (length (now out) ≡ frameLen (now w)) × (0 < widthOf (now w)) × (low ≤ high) × (high ≤ 8) ⌝ }
     ensures errors { λ r. ⌜ r ≡ errorsOf (sceneOf (now (w .entry)) frame (now (tables .entry)) (now (pictures .entry))) low high errors ⌝ }
-    ensures output { λ _. ⌜ now (out .exit) ≡ bandOf (sceneOf (now (w .entry)) frame (now (tables .entry)) (now (pictures .entry))) low high (now (out .entry)) ⌝ }
+    ensures output { λ _. ⌜ now (out .exit) ≡ bandOf (sceneOf (now (w .entry)) frame (now (tables .entry)) (now (pictures .entry))) low high (pickList fresh (fillOf (now (w .entry))) (now (out .entry))) ⌝ }
 {
     if !is_shown(w) {
+        lay_ground(out, fresh, ground_of(w));
         return errors;
     }
     let plan = plan_of(w, frame, tables, low, high);
-    paint_rows(out, w, frame, tables, pictures, low, high, plan);
+    paint_rows(out, w, frame, tables, pictures, low, high, fresh, plan);
     marks_of(plan, errors)
 }
 
@@ -89,7 +93,7 @@ pub fn band(
             errors: errors,
         };
     }
-    let marks = paint_band(w, frame, errors, low, high, tables, pictures, out);
+    let marks = paint_band(w, frame, errors, low, high, false, tables, pictures, out);
     Painted {
         answer: DONE,
         errors: marks,
@@ -115,9 +119,7 @@ pub fn frame(
             errors: errors,
         };
     }
-    let ground = ground_of(w);
-    span::fill(out, ground.c0, ground.c1, ground.c2);
-    let marks = paint_band(w, frame, errors, 0, 8, tables, pictures, out);
+    let marks = paint_band(w, frame, errors, 0, 8, true, tables, pictures, out);
     Painted {
         answer: DONE,
         errors: marks,

@@ -18,7 +18,7 @@ paint-band-requires c κs =
     (record { tables = f .lent; pictures = f .shown }, f .long, f .wide, f .low, f .high)
 
 same-length : tie.Need-same-length
-same-length c = c .before .before .paint-band .kept .1 .1 .1 .1 .1 .1 .1 .0
+same-length c = c .before .before .paint-band .kept .1 .1 .1 .1 .1 .1 .1 .1 .0
 
 returns-2 : tie.Need-returns-2
 returns-2 c = paint-done _ _ _ _ _ _ (c .before .before .before .before .before .paint-refusal .ensures) _ _ (c .before .before .before .before .if1 .left) (c .before .before .paint-band .ensures .0) (c .before .before .paint-band .ensures .1)

@@ -1,12 +1,9 @@
--- `paint::frame` meets its contract: what passes the refusal is filled and then painted, from the background
--- up. Assumes nothing.
+-- `paint::frame` meets its contract: what passes the refusal is painted from the background up. Assumes nothing.
 use borrow.Author.Needs.{needs}
-use mathlib.Core.Path.{sym, ap, _∙_}
-use native.Mathlib.Omega.{arith}
+use mathlib.Core.Path.{refl, sym, _∙_}
 use lib.ListN.{length}
 use denote.Ref.{now}
-use Rattle.lists.proofs.Tab.{length-tab}
-use Rattle.paint.proofs.FrameLaws.{Fits, paint-fits, filled-is, frame-refused, frame-done}
+use Rattle.paint.proofs.FrameLaws.{Fits, paint-fits, frame-refused, frame-done}
 use Rattle.paint.proofs.frame.Statement.{statement}
 use Rattle.paint.proofs.frame.Tie as tie
 
@@ -20,24 +17,18 @@ returns c = frame-refused _ _ _ _ (c .before .paint-refusal .ensures) (c .if1 .t
 fits : (c : tie.Else1) → Fits (now (c .before .before .before .before .before .args .w)) 0 8 (length (now (c .before .before .before .before .before .args .out))) (length (now (c .before .before .before .before .before .args .tables))) (length (now (c .before .before .before .before .before .args .pictures)))
 fits c = paint-fits _ _ _ _ _ _ (sym (c .before .paint-refusal .ensures) ∙ c .if1 .left)
 
-ground-of-requires : tie.Need-ground-of-requires
-ground-of-requires c κs = search needs
-
-fill-requires : tie.Need-fill-requires
-fill-requires c κs = let f = fits (c .before .before) in rw (f .long) (omega arith)
-
 paint-band-requires : tie.Need-paint-band-requires
 paint-band-requires c κs =
-    let f = fits (c .before .before .before .before .before .before) in
-    (record { tables = f .lent; pictures = f .shown }, ap length (c .before .before .before .fill .ensures) ∙ length-tab _ _ ∙ f .long, f .wide, f .low, f .high)
+    let f = fits (c .before) in
+    (record { tables = f .lent; pictures = f .shown }, f .long, f .wide, f .low, f .high)
 
 same-length : tie.Need-same-length
-same-length c = c .before .before .paint-band .kept .1 .1 .1 .1 .1 .1 .1 .0 ∙ ap length (c .before .before .before .before .before .before .fill .ensures) ∙ length-tab _ _
+same-length c = c .before .before .paint-band .kept .1 .1 .1 .1 .1 .1 .1 .1 .0
 
 returns-2 : tie.Need-returns-2
 returns-2 c =
-    frame-done _ _ _ _ (c .before .before .before .before .before .before .before .before .before .before .paint-refusal .ensures) _ _ _ (c .before .before .before .before .before .before .before .before .before .if1 .left) (c .before .before .paint-band .ensures .0)
-    (filled-is _ _ _ (fits (c .before .before .before .before .before .before .before .before .before) .long) (rw (c .before .before .before .before .before .before .before .before .ground-of .ensures) at (c .before .before .before .before .before .before .fill .ensures))) (c .before .before .paint-band .ensures .1)
+    frame-done _ _ _ _ (c .before .before .before .before .before .paint-refusal .ensures) _ _ _ (c .before .before .before .before .if1 .left)
+    (c .before .before .paint-band .ensures .0) refl (c .before .before .paint-band .ensures .1)
 
 pub frame-spec : {M : Type 1} → statement M
 frame-spec =
@@ -45,8 +36,6 @@ frame-spec =
     (tie.spec
     paint-refusal-requires
     returns
-    ground-of-requires
-    fill-requires
     paint-band-requires
     same-length
     returns-2)

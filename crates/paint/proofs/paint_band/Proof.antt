@@ -1,21 +1,39 @@
--- `paint::paint_band` meets its contract: with the display off nothing changes; else the rows hold the band
+-- `paint::paint_band` meets its contract: with the display off there is the ground alone; else the rows hold the band
 -- and the plan's marks are its error bits. Assumes nothing.
 use borrow.Author.Needs.{needs}
 use mathlib.Core.Path.{sym, ap, _∙_}
+use native.Mathlib.Omega.{arith}
 use lib.ListN.{length}
+use denote.Ref.{now}
 use borrow.Author.Tests.{not-true, not-false}
 use Rattle.lists.proofs.Tab.{length-each}
 use Rattle.paint.specs.Band.{errorsOf, bandOf}
 use Rattle.paint.proofs.PlanLaws.{planned-numbered}
 use Rattle.paint.proofs.FrameLaws.{off-band, marks-done}
+use Rattle.paint.proofs.RowsLaws.{ground-all, laid-band}
 use Rattle.paint.proofs.paint_band.Statement.{statement}
 use Rattle.paint.proofs.paint_band.Tie as tie
 
 is-shown-requires : tie.Need-is-shown-requires
 is-shown-requires c κs = search needs
 
+ground-of-requires : tie.Need-ground-of-requires
+ground-of-requires c κs = search needs
+
+lay-ground-requires : tie.Need-lay-ground-requires
+lay-ground-requires c κs = rw (c .before .before .before .before .before .before .before .pre .1) (omega arith)
+
+same-length : tie.Need-same-length
+same-length c = ap length (c .before .before .lay-ground .ensures) ∙ length-each _ _
+
 returns : tie.Need-returns
-returns c = off-band _ _ _ _ _ (sym (c .before .is-shown .ensures) ∙ not-true _ (c .if1 .taken))
+returns c =
+    let off = off-band _ _ _ _ _ (sym (c .before .before .before .before .before .before .is-shown .ensures) ∙ not-true _ (c .before .before .before .before .before .if1 .taken)) in
+    let a = c .before .before .before .before .before .before .before .before .before .before in (
+      off .0,
+      (rw (c .before .before .before .ground-of .ensures) at (c .before .before .lay-ground .ensures))
+          ∙ ground-all (now (a .args .w)) (a .args .fresh) (now (a .args .out)) (a .pre .1) ∙ off .1,
+    )
 
 plan-of-requires : tie.Need-plan-of-requires
 plan-of-requires c κs = c .before .before .before .before .before .pre .0 .tables
@@ -26,24 +44,27 @@ paint-rows-requires c κs = let a = c .before .before .before .before .before .b
 marks-of-requires : tie.Need-marks-of-requires
 marks-of-requires c κs = planned-numbered _ _ _ _ _ _ (c .before .before .before .before .plan-of .ensures)
 
-same-length : tie.Need-same-length
-same-length c = ap length (c .before .before .before .paint-rows .ensures) ∙ length-each _ _
+same-length-2 : tie.Need-same-length-2
+same-length-2 c = ap length (c .before .before .before .paint-rows .ensures) ∙ length-each _ _
 
 returns-2 : tie.Need-returns-2
 unfolding errorsOf bandOf
 returns-2 c =
     let a = c .before .before .before .before .before .before .before .before .before .before .before in
     let t = sym (c .before .before .before .before .before .before .before .is-shown .ensures) ∙ not-false _ (c .before .before .before .before .before .before .if1 .left) in
-    (rw t (c .marks-of .ensures ∙ marks-done _ _ _ _ _ (a .pre .3) (a .pre .4) (c .before .before .before .before .before .plan-of .ensures)), rw t (c .before .before .before .paint-rows .ensures))
+    (rw t (c .marks-of .ensures ∙ marks-done _ _ _ _ _ (a .pre .3) (a .pre .4) (c .before .before .before .before .before .plan-of .ensures)), rw t (c .before .before .before .paint-rows .ensures ∙ laid-band _ _ _ _ _ (a .pre .1)))
 
 pub paint-band-spec : {M : Type 1} → statement M
 paint-band-spec =
     tie.close
     (tie.spec
     is-shown-requires
+    ground-of-requires
+    lay-ground-requires
+    same-length
     returns
     plan-of-requires
     paint-rows-requires
     marks-of-requires
-    same-length
+    same-length-2
     returns-2)

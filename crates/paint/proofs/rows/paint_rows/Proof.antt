@@ -17,11 +17,11 @@ use Rattle.paint.proofs.rows.paint_rows.Statement.{statement}
 use Rattle.paint.proofs.rows.paint_rows.Tie as tie
 
 abbrev Inv-loop : tie.InvT-loop
-Inv-loop out₀ w frame tables pictures low high plan stride height indexes₀ row₀ y₀ out indexes row y =
-    (y ≤ height) × (out ≡ each (rowsByte (sceneOf w frame tables pictures) low high y) out₀) × (length indexes ≡ 4096) × (length row ≡ 16384)
+Inv-loop out₀ w frame tables pictures low high fresh plan stride height ground indexes₀ row₀ y₀ out indexes row y =
+    (y ≤ height) × (out ≡ each (rowsByte (sceneOf w frame tables pictures) low high fresh y) out₀) × (length indexes ≡ 4096) × (length row ≡ 16384)
 
 abbrev μ-loop : tie.MeasureT-loop
-μ-loop out₀ w frame tables pictures low high plan stride height indexes₀ row₀ y₀ out indexes row y =
+μ-loop out₀ w frame tables pictures low high fresh plan stride height ground indexes₀ row₀ y₀ out indexes row y =
     height - y
 
 screen-width-requires : tie.Need-screen-width-requires Inv-loop μ-loop
@@ -39,6 +39,9 @@ screen-height-requires c κs = search needs
 cast-height : tie.Need-cast-height Inv-loop μ-loop
 cast-height c = search needs
 
+ground-of-requires : tie.Need-ground-of-requires Inv-loop μ-loop
+ground-of-requires c κs = search needs
+
 index-room-requires : tie.Need-index-room-requires Inv-loop μ-loop
 index-room-requires c κs = search needs
 
@@ -46,55 +49,55 @@ pixel-room-requires : tie.Need-pixel-room-requires Inv-loop μ-loop
 pixel-room-requires c κs = search needs
 
 loop-holds : tie.Need-loop-holds Inv-loop μ-loop
-loop-holds c = (search needs, rows-none _ _ _ (c .before .before .before .before .before .before .before .pre .1 .1) _, c .before .index-room .ensures, c .pixel-room .ensures)
+loop-holds c = (search needs, rows-none _ _ _ _ (c .before .before .before .before .before .before .before .before .pre .1 .1) _, c .before .index-room .ensures, c .pixel-room .ensures)
 
 -- ---- line y lies in the output
 
-stride : (c : tie.In-loop Inv-loop μ-loop) → 4 * c .before .before .before .before .before .screen-width .result ≡ 4 * widthOf (now (c .before .before .before .before .before .before .before .before .before .args .w))
-stride c = ap (λ (n : ℕ). 4 * n) (c .before .before .before .before .before .screen-width .ensures)
+stride : (c : tie.In-loop Inv-loop μ-loop) → 4 * c .before .before .before .before .before .before .screen-width .result ≡ 4 * widthOf (now (c .before .before .before .before .before .before .before .before .before .before .args .w))
+stride c = ap (λ (n : ℕ). 4 * n) (c .before .before .before .before .before .before .screen-width .ensures)
 
-out-long : (c : tie.In-loop Inv-loop μ-loop) → length (c .before .loop .out) ≡ length (now (c .before .before .before .before .before .before .before .before .before .args .out))
+out-long : (c : tie.In-loop Inv-loop μ-loop) → length (c .before .loop .out) ≡ length (now (c .before .before .before .before .before .before .before .before .before .before .args .out))
 out-long c = ap length (c .before .loop .inv .1) ∙ length-each _ _
 
-room : (c : tie.In-loop Inv-loop μ-loop) → c .before .loop .y * (4 * c .before .before .before .before .before .screen-width .result) + 4 * c .before .before .before .before .before .screen-width .result ≤ length (c .before .loop .out)
+room : (c : tie.In-loop Inv-loop μ-loop) → c .before .loop .y * (4 * c .before .before .before .before .before .before .screen-width .result) + 4 * c .before .before .before .before .before .before .screen-width .result ≤ length (c .before .loop .out)
 room c =
-    rows-room _ _ _ _ _ _ (stride c) (c .loop-test .taken) (c .before .before .before .before .screen-height .ensures)
-    (out-long c ∙ c .before .before .before .before .before .before .before .before .before .pre .1 .0)
+    rows-room _ _ _ _ _ _ (stride c) (c .loop-test .taken) (c .before .before .before .before .before .screen-height .ensures)
+    (out-long c ∙ c .before .before .before .before .before .before .before .before .before .before .pre .1 .0)
 
-at : (c : tie.In-loop Inv-loop μ-loop) → c .before .loop .y * (4 * c .before .before .before .before .before .screen-width .result) < 18446744073709551616
+at : (c : tie.In-loop Inv-loop μ-loop) → c .before .loop .y * (4 * c .before .before .before .before .before .before .screen-width .result) < 18446744073709551616
 at c = omega (arith, room c, out-long c)
 
-to : (c : tie.In-loop Inv-loop μ-loop) → c .before .loop .y * (4 * c .before .before .before .before .before .screen-width .result) + 4 * c .before .before .before .before .before .screen-width .result < 18446744073709551616
+to : (c : tie.In-loop Inv-loop μ-loop) → c .before .loop .y * (4 * c .before .before .before .before .before .before .screen-width .result) + 4 * c .before .before .before .before .before .before .screen-width .result < 18446744073709551616
 to c = omega (arith, room c, out-long c)
 
 mul-at : tie.Need-mul-at Inv-loop μ-loop
 mul-at c = record { fits = at c }
 
-add-paint-line : tie.Need-add-paint-line Inv-loop μ-loop
-add-paint-line c = record { fits = to c }
+add-lay-line : tie.Need-add-lay-line Inv-loop μ-loop
+add-lay-line c = record { fits = to c }
 
-sub-paint-line : tie.Need-sub-paint-line Inv-loop μ-loop
-sub-paint-line c = search needs
+sub-lay-line : tie.Need-sub-lay-line Inv-loop μ-loop
+sub-lay-line c = search needs
 
-part-paint-line-start : tie.Need-part-paint-line-start Inv-loop μ-loop
-part-paint-line-start c = search needs
+part-lay-line-start : tie.Need-part-lay-line-start Inv-loop μ-loop
+part-lay-line-start c = search needs
 
-part-paint-line-end : tie.Need-part-paint-line-end Inv-loop μ-loop
-part-paint-line-end c = room c
+part-lay-line-end : tie.Need-part-lay-line-end Inv-loop μ-loop
+part-lay-line-end c = room c
 
-slice-aggregate-paint-line : tie.Need-slice-aggregate-paint-line Inv-loop μ-loop
-slice-aggregate-paint-line c = sym (c .before .before .before .loop .inv .2)
+slice-aggregate-lay-line : tie.Need-slice-aggregate-lay-line Inv-loop μ-loop
+slice-aggregate-lay-line c = sym (c .before .before .before .loop .inv .2)
 
-slice-aggregate-paint-line-2 : tie.Need-slice-aggregate-paint-line-2 Inv-loop μ-loop
-slice-aggregate-paint-line-2 c = sym (c .before .before .before .before .loop .inv .3)
+slice-aggregate-lay-line-2 : tie.Need-slice-aggregate-lay-line-2 Inv-loop μ-loop
+slice-aggregate-lay-line-2 c = sym (c .before .before .before .before .loop .inv .3)
 
-paint-line-requires : tie.Need-paint-line-requires Inv-loop μ-loop
-paint-line-requires c κs =
-    let a = c .before .before .before .before .before .before .before .before .before .before .before .before in
+lay-line-requires : tie.Need-lay-line-requires Inv-loop μ-loop
+lay-line-requires c κs =
+    let a = c .before .before .before .before .before .before .before .before .before .before .before .before .before in
     let i = c .before .before .before .before .loop .inv in
     let turn = c .before .before .before in (
       a .pre .0,
-      (lent-long _ _ _ (room turn) ∙ stride turn, a .pre .1 .2, a .pre .1 .3, record { wide = omega (arith, i .2); long = omega (arith, i .3) }),
+      (lent-long _ _ _ (room turn) ∙ stride turn, a .pre .1 .2, a .pre .1 .3, record { wide = omega (arith, i .2); long = omega (arith, i .3) }, c .before .before .before .before .before .before .before .ground-of .ensures),
     )
 
 add-y : tie.Need-add-y Inv-loop μ-loop
@@ -105,13 +108,13 @@ loop-less c = search needs
 
 loop-again : tie.Need-loop-again Inv-loop μ-loop
 loop-again c =
-    let a = c .before .before .before .before .before .before .before .before .before .before .before .before .before .before .before .before .before in
+    let a = c .before .before .before .before .before .before .before .before .before .before .before .before .before .before .before .before .before .before in
     let i = c .before .before .before .before .before .before .before .before .before .loop .inv in
     let turn = c .before .before .before .before .before .before .before .before in (
       search needs,
-      rows-lent _ _ _ (a .pre .1 .1) _ _ _ _ _ (stride turn) (room turn) (i .1) (c .before .before .before .before .paint-line .ensures),
-      c .before .before .before .before .paint-line .kept .1 .0 ∙ i .2,
-      c .before .before .before .before .paint-line .kept .1 .1 .0 ∙ i .3,
+      rows-lent _ _ _ _ (a .pre .1 .1) _ _ _ _ _ (stride turn) (room turn) (i .1) (c .before .before .before .before .lay-line .ensures),
+      c .before .before .before .before .lay-line .kept .1 .0 ∙ i .2,
+      c .before .before .before .before .lay-line .kept .1 .1 .0 ∙ i .3,
     )
 
 same-length : tie.Need-same-length Inv-loop μ-loop
@@ -119,7 +122,7 @@ same-length c = ap length (c .before .loop .inv .1) ∙ length-each _ _
 
 returns : tie.Need-returns Inv-loop μ-loop
 returns c =
-    rows-all _ _ _ (c .before .before .before .before .before .before .before .before .before .pre .1 .1) _ _ _ (omega (arith, c .before .before .before .before .screen-height .ensures)) (c .before .before .before .before .before .before .before .before .before .pre .1 .0) (c .before .loop .inv .1)
+    rows-all _ _ _ _ (c .before .before .before .before .before .before .before .before .before .before .pre .1 .1) _ _ _ (omega (arith, c .before .before .before .before .before .screen-height .ensures)) (c .before .before .before .before .before .before .before .before .before .before .pre .1 .0) (c .before .loop .inv .1)
 
 pub paint-rows-spec : {M : Type 1} → statement M
 paint-rows-spec =
@@ -132,17 +135,18 @@ paint-rows-spec =
     mul-stride
     screen-height-requires
     cast-height
+    ground-of-requires
     index-room-requires
     pixel-room-requires
     loop-holds
     mul-at
-    add-paint-line
-    sub-paint-line
-    part-paint-line-start
-    part-paint-line-end
-    slice-aggregate-paint-line
-    slice-aggregate-paint-line-2
-    paint-line-requires
+    add-lay-line
+    sub-lay-line
+    part-lay-line-start
+    part-lay-line-end
+    slice-aggregate-lay-line
+    slice-aggregate-lay-line-2
+    lay-line-requires
     add-y
     loop-less
     loop-again
