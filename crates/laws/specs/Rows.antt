@@ -87,7 +87,7 @@ NoBand a b = (b < a) ⊎ (8 < b)
 
 -- 12: "active output size still 0"
 abbrev pub NoSize : List ℕ → Type 0
-NoSize w = (widthOf w ≡ 0) ⊎ (heightOf w ≡ 0)
+NoSize w = EmptyScreen w
 
 -- 13: "output not 4·width·height bytes"
 abbrev pub WrongOutput : List ℕ → List ℕ → Type 0

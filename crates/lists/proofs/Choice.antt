@@ -1,5 +1,5 @@
--- Laws of choices, and cases on numbers. Assumes nothing.
-use mathlib.Core.Path.{_≡_, refl, sym}
+-- Laws of choices, cases on numbers, and two that equal a third. Assumes nothing.
+use mathlib.Core.Path.{_≡_, refl, sym, _∙_}
 use mathlib.Core.Bool.{Bool, true, false, false≢true}
 use mathlib.Core.Logic.{_⊎_, inl, inr, ⊎-elim}
 use mathlib.Core.List.{List}
@@ -8,6 +8,10 @@ use native.Mathlib.Decide.{ℕ-discrete}
 use native.Mathlib.Omega.{arith}
 use borrow.Author.Tests.{ne-eqb}
 use Rattle.lists.specs.Choice.{pick, pickList, both, either, orElse}
+
+-- two that equal a third: by this an equation admits one outcome
+pub meet : {A : Type 0} {x y z : A} → x ≡ z → y ≡ z → x ≡ y
+meet p q = p ∙ sym q
 
 -- two numbers: the one is below the other or not; they are the same or not
 pub split : (i k : ℕ) → (i < k) ⊎ (k ≤ i)

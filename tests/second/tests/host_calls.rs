@@ -7,8 +7,9 @@
 
 use second::beside::{number, program};
 use second::cases::{gen_host, word_images, HostCase};
-use second::host::host_frame;
+use second::host::{host_frame, image_words};
 use second::tables::TABLES_LEN;
+use second::words::{layer_word, LAYERS};
 use std::collections::BTreeMap;
 use std::io::{Read, Write};
 use std::process::{Child, Command, Stdio};
@@ -49,11 +50,14 @@ impl Host {
     }
 }
 
+/// What an entry tells of a call, as `Host::call` does.
+type Entry<'a> = &'a mut dyn FnMut(&HostCase) -> (u32, bool, Vec<u8>);
+
 /// Makes both calls and answers their number, or says where they part.
-fn compare(host: &mut Host, case: &HostCase) -> Result<u32, String> {
+fn compare(entry: Entry, case: &HostCase) -> Result<u32, String> {
     let mut ours = case.output.clone();
     let answer = host_frame(&case.image, case.frame, &case.tables, &case.pictures, &mut ours);
-    let (theirs, touched, painted) = host.call(case);
+    let (theirs, touched, painted) = entry(case);
     if theirs != answer {
         return Err(format!("it answers {theirs}, we answer {answer}"));
     }
@@ -69,6 +73,82 @@ fn compare(host: &mut Host, case: &HostCase) -> Result<u32, String> {
     }
 }
 
+/// Compares the call of one seed; a difference is told with a smaller call that differs too.
+fn compare_generated(entry: Entry, seed: u64) -> Result<u32, String> {
+    let case = gen_host(seed);
+    compare(entry, &case).map_err(|told| {
+        let small = smaller(case, entry);
+        let still = compare(entry, &small).expect_err("it differs");
+        format!("seed {seed}: {told}\na small call that differs: {still}\n{}", shown(&small))
+    })
+}
+
+/// The call without the layers, registers and tables that it does not need in order to differ.
+fn smaller(mut case: HostCase, entry: Entry) -> HostCase {
+    for n in 0..LAYERS {
+        case = match without_layer(&case, n) {
+            Some(lighter) if compare(entry, &lighter).is_err() => lighter,
+            _ => case,
+        };
+    }
+    zero_runs(&mut case, |case| &mut case.image, 4, entry);
+    for run in [3_712, 1_856, 64, 16, 4] {
+        zero_runs(&mut case, |case| &mut case.tables, run, entry);
+    }
+    case
+}
+
+/// The call with an enabled layer switched off and its picture taken out.
+fn without_layer(case: &HostCase, n: usize) -> Option<HostCase> {
+    let words = image_words(&case.image)?;
+    let layer = words.layer(n);
+    let mut lighter = case.clone();
+    lighter.image[4 * layer_word(n)] &= !1;
+    if layer.enabled && !layer.graphics {
+        let start = words.picture_start(n) as usize;
+        let end = start + layer.picture_len() as usize;
+        lighter.pictures = [case.pictures.get(..start)?, case.pictures.get(end..)?].concat();
+    }
+    layer.enabled.then_some(lighter)
+}
+
+/// Zeros in the runs of a buffer, as long as the call still differs.
+fn zero_runs(
+    case: &mut HostCase,
+    buffer: fn(&mut HostCase) -> &mut Vec<u8>,
+    run: usize,
+    entry: Entry,
+) {
+    let length = buffer(case).len();
+    for at in (0..length).step_by(run) {
+        let mut lighter = case.clone();
+        let part = &mut buffer(&mut lighter)[at..length.min(at + run)];
+        if part.iter().all(|&byte| byte == 0) {
+            continue;
+        }
+        part.fill(0);
+        if compare(entry, &lighter).is_err() {
+            *case = lighter;
+        }
+    }
+}
+
+/// A call's frame number, its registers and table words that are not 0, and its buffers' lengths.
+fn shown(case: &HostCase) -> String {
+    let words = |bytes: &[u8]| {
+        let word = |chunk: &[u8]| chunk.iter().rev().fold(0, |n, &byte| n << 8 | u32::from(byte));
+        let words = bytes.chunks(4).map(word).enumerate().filter(|&(_, word)| word != 0);
+        words.map(|(i, word)| format!(" {i}: {word:08X}")).collect::<String>()
+    };
+    let lengths = [&case.image, &case.tables, &case.pictures, &case.output].map(Vec::len);
+    [
+        format!("frame number {}, lengths {lengths:?}", case.frame),
+        format!("registers{}", words(&case.image)),
+        format!("table words{}", words(&case.tables)),
+    ]
+    .join("\n")
+}
+
 #[test]
 fn the_entry_answers_the_swept_images() {
     // Every bit of an image that passes the other way round, and every two faults of it.
@@ -81,8 +161,8 @@ fn the_entry_answers_the_swept_images() {
             pictures: Vec::new(),
             output: vec![1, 2, 3, 4],
         };
-        if let Err(told) = compare(&mut host, &case) {
-            panic!("image {i} of the sweep: {told}\n{:X?}", case.image);
+        if let Err(told) = compare(&mut |case| host.call(case), &case) {
+            panic!("image {i} of the sweep: {told}\n{}", shown(&case));
         }
     }
 }
@@ -90,18 +170,33 @@ fn the_entry_answers_the_swept_images() {
 #[test]
 fn the_entry_answers_the_generated_calls() {
     let mut host = Host::start();
+    let mut seeds = 0..number("SPOONWING_CALLS").unwrap_or(4_000);
     if let Some(seed) = number("SPOONWING_SEED") {
-        let case = gen_host(seed);
-        println!("{case:X?}");
-        println!("both answer {}", compare(&mut host, &case).expect("they agree"));
-        return;
+        seeds = seed..seed + 1;
+        println!("{}", shown(&gen_host(seed)));
     }
     let mut counts = BTreeMap::new();
-    for seed in 0..number("SPOONWING_CALLS").unwrap_or(4_000) {
-        match compare(&mut host, &gen_host(seed)) {
+    for seed in seeds {
+        match compare_generated(&mut |case| host.call(case), seed) {
             Ok(answer) => *counts.entry(answer).or_insert(0) += 1,
-            Err(told) => panic!("seed {seed}: {told}"),
+            Err(told) => panic!("{told}"),
         }
     }
     println!("by answer: {counts:?}");
+}
+
+/// The comparison itself, on an entry that is known to be wrong: its fades stand still at frame 0.
+#[test]
+fn an_impostor_is_caught_and_its_call_made_small() {
+    let mut impostor = |case: &HostCase| {
+        let mut out = case.output.clone();
+        let answer = host_frame(&case.image, 0, &case.tables, &case.pictures, &mut out);
+        (answer, false, out)
+    };
+    let caught = (0..100).find_map(|seed| compare_generated(&mut impostor, seed).err());
+    let told = caught.expect("the impostor goes unseen");
+    assert!(told.starts_with("seed ") && told.contains("a small call that differs"), "{told}");
+    let registers = told.lines().find_map(|line| line.strip_prefix("registers")).expect("they are");
+    // Display, size and background, and the words of the one layer that fades.
+    assert!(registers.matches(": ").count() <= 9, "{told}");
 }

@@ -7,6 +7,7 @@
 use second::beside::{fewer, lines, number, program, run};
 use second::cases::{byte_sheet, drawing_sheet, gen_sheet, line_text, number_sheet, word_sheet};
 use second::sheet::{print_sheet, Line};
+use std::fs;
 use std::path::Path;
 
 const LINES_A_SHEET: usize = 40;
@@ -94,6 +95,14 @@ fn the_program_prints_the_fixed_sheets() {
         compare(name, sheet, &|sheet| run(&program, &[], sheet))
             .unwrap_or_else(|told| panic!("{told}"));
     }
+}
+
+/// The sheet that the gate runs the program on, and what it holds the program to.
+#[test]
+fn the_sheet_of_the_gate_prints_the_same_here() {
+    let folder = Path::new(env!("CARGO_MANIFEST_DIR")).join("../../crates/sheet");
+    let [sheet, printed] = ["stdin", "stdout"].map(|name| fs::read(folder.join(name)).expect(name));
+    assert_eq!(print_sheet(&sheet).escape_ascii().to_string(), printed.escape_ascii().to_string());
 }
 
 /// Every bit of every register and every two faults of a scene, every number of two digits, every
