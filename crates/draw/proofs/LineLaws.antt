@@ -13,7 +13,8 @@ use Rattle.lists.specs.Tab.{tab, each}
 use Rattle.lists.specs.Zero.{zeroFrom}
 use Rattle.lists.proofs.Zero.{zero-stops, zero-ends}
 use Rattle.lists.proofs.Tab.{is-tab, tab-cong, length-tab, getD-tab, length-each, getD-each, each-cong, each-id, each-then}
-use Rattle.draw.specs.Instruction.{wordAt, scaleOf, opcode}
+use Rattle.lists.specs.Little.{littleAt}
+use Rattle.draw.specs.Instruction.{scaleOf, opcode}
 use Rattle.draw.specs.Box.{boxAfter, boxOf}
 use Rattle.draw.specs.Text.{character, shownOf, glyphRow, pixelOf, rowAfter, stringPixel, stringAfter, textOf}
 use Rattle.draw.specs.Drawing.{drawnBy, drawnTo, countOf, indexAt}
@@ -38,7 +39,7 @@ module _ (x0 x1 y0 y1 k colour v : ℕ) (l : List ℕ) where
       let q : wholeOf k (v - y0) (y1 - v) (x1 - x0) ≡ false = sym w ∙ f in
       each-then _ _ _ l e e′ (box-sides x0 x1 y0 y1 k colour v a b q (whole-across _ _ _ _ q) h)
 
-module _ (ins : List ℕ) (k v w2 : ℕ) (l : List ℕ) (e2 : w2 ≡ wordAt ins (16 * k + 8)) where
+module _ (ins : List ℕ) (k v w2 : ℕ) (l : List ℕ) (e2 : w2 ≡ littleAt ins (16 * k + 8)) where
   pub box-line-above : v < w2 % 4096 → l ≡ each (boxOf ins k v) l
   unfolding boxOf
   box-line-above h = each-id _ l (λ u old. box-above _ _ _ _ _ _ v (rw e2 at h) u old)
@@ -47,7 +48,7 @@ module _ (ins : List ℕ) (k v w2 : ℕ) (l : List ℕ) (e2 : w2 ≡ wordAt ins 
   unfolding boxOf
   box-line-below h = each-id _ l (λ u old. box-below _ _ _ _ _ _ v (rw e2 at h) u old)
 
-  pub box-line : (w0 w3 : ℕ) {l′ : List ℕ} → w0 ≡ wordAt ins (16 * k) → w3 ≡ wordAt ins (16 * k + 12)
+  pub box-line : (w0 w3 : ℕ) {l′ : List ℕ} → w0 ≡ littleAt ins (16 * k) → w3 ≡ littleAt ins (16 * k + 12)
       → l′ ≡ each (boxAfter (w0 % 4096) (w0 / 4096 % 4096) (w2 % 4096) (w2 / 4096 % 4096) (w2 / 16777216 % 16) (w3 % 256 % 16) v) l → l′ ≡ each (boxOf ins k v) l
   unfolding boxOf
   box-line w0 w3 e0 e3 e = e ∙ each-cong _ _ l (λ u old. rw (e0, e2, e3))
@@ -97,7 +98,7 @@ module _ (strings font : List ℕ) (n row z x colour i : ℕ) (l : List ℕ) {l�
 
 -- ---- a text
 
-module _ (ins strings font : List ℕ) (k v w2 : ℕ) (l : List ℕ) (e2 : w2 ≡ wordAt ins (16 * k + 8)) where
+module _ (ins strings font : List ℕ) (k v w2 : ℕ) (l : List ℕ) (e2 : w2 ≡ littleAt ins (16 * k + 8)) where
   pub text-line-above : v < w2 % 4096 → l ≡ each (textOf ins strings font k v) l
   unfolding textOf
   text-line-above h = each-id _ l (λ u old. text-above strings font _ _ _ _ _ v (rw e2 at h) u old)
@@ -108,11 +109,11 @@ module _ (ins strings font : List ℕ) (k v w2 : ℕ) (l : List ℕ) (e2 : w2 �
     text-line-below h =
         each-id _ l (λ u old. text-below strings font _ _ _ _ _ v (rw (ez, e2) at pos) (rw (ez, e2) at h) u old)
 
-    pub text-line-number : (w1 : ℕ) → w1 ≡ wordAt ins (16 * k + 4) → 7 < w1 % 256 → l ≡ each (textOf ins strings font k v) l
+    pub text-line-number : (w1 : ℕ) → w1 ≡ littleAt ins (16 * k + 4) → 7 < w1 % 256 → l ≡ each (textOf ins strings font k v) l
     unfolding textOf
     text-line-number w1 e1 h = each-id _ l (λ u old. text-number strings font _ _ _ _ _ v (rw e1 at h) u old)
 
-    pub text-line : (w0 w1 w3 : ℕ) {l′ : List ℕ} → w0 ≡ wordAt ins (16 * k) → w1 ≡ wordAt ins (16 * k + 4) → w3 ≡ wordAt ins (16 * k + 12)
+    pub text-line : (w0 w1 w3 : ℕ) {l′ : List ℕ} → w0 ≡ littleAt ins (16 * k) → w1 ≡ littleAt ins (16 * k + 4) → w3 ≡ littleAt ins (16 * k + 12)
         → w2 % 4096 ≤ v → v < w2 % 4096 + 8 * z → w1 % 256 ≤ 7
         → l′ ≡ each (stringAfter strings font (w1 % 256) ((v - w2 % 4096) / z) z (w0 % 4096) (w3 / 256 % 256 % 16)) l
         → l′ ≡ each (textOf ins strings font k v) l

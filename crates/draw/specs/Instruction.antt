@@ -3,20 +3,18 @@
 use Prim.Native.Nat.{ℕ, _+_, _*_, _/_, _%_, _^_}
 use mathlib.Core.List.{List, [], _∷_}
 use lib.ListN.{getD}
+use Rattle.lists.specs.Little.{littleAt}
 use Rattle.tables.specs.Geometry.{instructionLen}
 
--- 01 "Graphics layers": "An instruction is four little-endian words"
-unfoldable pub wordAt : List ℕ → ℕ → ℕ
-wordAt s at = getD s at 0 + 2 ^ 8 * getD s (at + 1) 0 + 2 ^ 16 * getD s (at + 2) 0 + 2 ^ 24 * getD s (at + 3) 0
-
--- "scale 31:30 (1, 2, 4, 8)"
+-- 01 "Graphics layers": "scale 31:30 (1, 2, 4, 8)"
 unfoldable pub scaleOf : ℕ → ℕ
 scaleOf n = getD (1 ∷ 2 ∷ 4 ∷ 8 ∷ []) n 0
 
+-- "An instruction is four little-endian words"
 module _ (ins : List ℕ) (k : ℕ) where
   -- "word 0: opcode 31:28, x end 23:12, x start 11:0"
   abbrev word0 : ℕ
-  word0 = wordAt ins (instructionLen * k)
+  word0 = littleAt ins (instructionLen * k)
 
   abbrev pub opcode : ℕ
   opcode = word0 / 2 ^ 28
@@ -29,11 +27,11 @@ module _ (ins : List ℕ) (k : ℕ) where
 
   -- "word 1: string number 7:0"
   abbrev pub string : ℕ
-  string = wordAt ins (instructionLen * k + 4) % 2 ^ 8
+  string = littleAt ins (instructionLen * k + 4) % 2 ^ 8
 
   -- "word 2: scale 31:30 (1, 2, 4, 8), outline weight 27:24, y end 23:12, y start 11:0"
   abbrev word2 : ℕ
-  word2 = wordAt ins (instructionLen * k + 8)
+  word2 = littleAt ins (instructionLen * k + 8)
 
   abbrev pub scale : ℕ
   scale = scaleOf (word2 / 2 ^ 30)
@@ -49,7 +47,7 @@ module _ (ins : List ℕ) (k : ℕ) where
 
   -- "word 3: box colour 7:0, text colour 15:8, each taken modulo 16"
   abbrev word3 : ℕ
-  word3 = wordAt ins (instructionLen * k + 12)
+  word3 = littleAt ins (instructionLen * k + 12)
 
   abbrev pub boxColour : ℕ
   boxColour = word3 % 2 ^ 8 % 16

@@ -6,8 +6,8 @@ ghost use Rattle.lists.specs.Tab.{each};
 ghost use Rattle.tables.specs.Geometry.{instructions, instructionLen};
 ghost use Rattle.draw.specs.Box.{boxAfter, boxOf};
 ghost use Rattle.draw.specs.Rows.{wholeOf};
-use crate::instruction::word;
 use crate::runs::fill_run;
+use numbers::word;
 
 // Whether the row that many places from the upper and the lower side is one run.
 fn is_whole(weight: usize, above: usize, below: usize, across: usize) -> bool

@@ -1,23 +1,10 @@
-// The words of an instruction, and what two of its fields mean.
+// What two fields of an instruction mean.
 ghost use mathlib.Core.Path.{_≡_};
-ghost use Prim.Native.Nat.{_+_, _*_, _≤_, _<_, _^_};
+ghost use Prim.Native.Nat.{_*_, _≤_, _<_};
 ghost use lib.ListN.{length};
 ghost use Rattle.tables.specs.Geometry.{instructions, instructionLen};
-ghost use Rattle.draw.specs.Instruction.{wordAt, scaleOf, opcode};
-
-pub fn wide(x: u8) -> usize
-    ensures { λ r. ⌜ (r ≡ x) × (r < 2 ^ 8) ⌝ }
-{
-    x as usize
-}
-
-// Four bytes, the least first.
-pub fn word(s: &[u8], at: usize) -> usize
-    requires { ⌜ at + 4 ≤ length (now s) ⌝ }
-    ensures { λ r. ⌜ (r ≡ wordAt (now (s .entry)) at) × (r < 2 ^ 32) ⌝ }
-{
-    wide(s[at]) + 256 * wide(s[at + 1]) + 65536 * wide(s[at + 2]) + 16777216 * wide(s[at + 3])
-}
+ghost use Rattle.draw.specs.Instruction.{scaleOf, opcode};
+use numbers::word;
 
 // What instruction k does; 0 is END.
 pub fn opcode(ins: &[u8], k: usize) -> usize

@@ -1,17 +1,8 @@
 // A run of one colour in a line.
 ghost use mathlib.Core.Path.{_≡_};
-ghost use Prim.Native.Nat.{min};
 ghost use Rattle.lists.specs.Tab.{each};
 ghost use Rattle.draw.specs.Rows.{runAfter};
-
-fn least(a: usize, b: usize) -> usize
-    ensures { λ r. ⌜ r ≡ min a b ⌝ }
-{
-    if a <= b {
-        return a;
-    }
-    b
-}
+use numbers::least;
 
 // The colour at each place from a up to e, as far as the line goes.
 pub fn fill_run(line: &mut [u8], a: usize, e: usize, colour: u8)

@@ -8,9 +8,9 @@ ghost use Rattle.draw.specs.Text.{glyphRow, pixelOf, rowAfter, stringAft
 ghost use Rattle.draw.specs.Drawing.{Tables};
 ghost use Rattle.draw.specs.Rows.{pixelAfter};
 use crate::instruction::scale;
-use crate::instruction::wide;
-use crate::instruction::word;
 use crate::runs::fill_run;
+use numbers::wide;
+use numbers::word;
 
 // The bits of a row of a character's glyph; none for a character without one.
 fn glyph_row(font: &[u8], c: u8, row: usize) -> u8

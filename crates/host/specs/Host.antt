@@ -1,9 +1,10 @@
 -- The entry for a C host: 01 "Sheet program and host entry". Assumes nothing.
-use Prim.Native.Nat.{ℕ, _+_, _*_}
+use Prim.Native.Nat.{ℕ, _*_}
 use mathlib.Core.List.{List}
-use lib.ListN.{length, getD}
+use lib.ListN.{length}
 use lib.Dec.{eqb}
 use Rattle.lists.specs.Choice.{pick, pickList, orElse}
+use Rattle.lists.specs.Little.{littleAt}
 use Rattle.lists.specs.Tab.{tab}
 use Rattle.answers.specs.Answers.{done, imageLength}
 use Rattle.words.specs.Check.{checkOf}
@@ -12,10 +13,8 @@ use Rattle.paint.specs.Frame.{refusalOf, frameOf}
 
 -- "The C host calls one exported entry with a 208-byte register image (52 little-endian words), frame
 -- number, tables, pictures, output."
-unfoldable pub wordAt : List ℕ → ℕ → ℕ
-wordAt image i =
-    getD image (4 * i) 0 + 256 * getD image (4 * i + 1) 0
-    + (65536 * getD image (4 * i + 2) 0 + 16777216 * getD image (4 * i + 3) 0)
+abbrev pub wordAt : List ℕ → ℕ → ℕ
+wordAt image i = littleAt image (4 * i)
 
 unfoldable pub wordsOf : List ℕ → List ℕ
 wordsOf image = tab 52 (wordAt image)

@@ -1,30 +1,14 @@
 // The one entry for a C host: a whole frame from a register image, with no state between calls.
 ghost use mathlib.Core.Path.{_≡_};
-ghost use Prim.Native.Nat.{_+_, _*_, _<_};
 ghost use lib.ListN.{length};
-ghost use Rattle.host.specs.Host.{wordAt, wordsOf, hostAnswer, hostOutput};
+ghost use Rattle.host.specs.Host.{wordsOf, hostAnswer, hostOutput};
 use answers::DONE;
 use answers::IMAGE_LENGTH;
+use numbers::word;
 use words::check::refusal_of;
 
 // 52 words of four bytes.
 const IMAGE_LEN: usize = 208;
-
-fn wide(x: u8) -> u32
-    ensures { λ r. ⌜ (r ≡ x) × (r < 256) ⌝ }
-{
-    x as u32
-}
-
-// Word i of an image, the lowest byte first.
-fn word(image: &[u8], i: usize) -> u32
-    requires { ⌜ (i < 52) × (length (now image) ≡ 208) ⌝ }
-    ensures { λ r. ⌜ r ≡ wordAt (now (image .entry)) i ⌝ }
-{
-    let low = wide(image[4 * i]) + 256 * wide(image[4 * i + 1]);
-    let high = 65536 * wide(image[4 * i + 2]) + 16777216 * wide(image[4 * i + 3]);
-    low + high
-}
 
 fn words_of(image: &[u8]) -> [u32; 52]
     requires { ⌜ length (now image) ≡ 208 ⌝ }
@@ -33,7 +17,7 @@ fn words_of(image: &[u8]) -> [u32; 52]
     let mut words: [u32; 52] = [0; 52];
     let mut i: usize = 0;
     while i < 52 {
-        words[i] = word(image, i);
+        words[i] = word(image, 4 * i) as u32;
         i += 1;
     }
     words

@@ -8,6 +8,7 @@ use lib.ListN.{length, getD, length-replicate, getD-replicate}
 use Rattle.bytes.specs.Bytes.{indexOf}
 use Rattle.lists.specs.Over.{over}
 use Rattle.lists.specs.Runs.{firstOf, sumOf, run}
+use Rattle.lists.specs.Little.{littleAt}
 use Rattle.lists.specs.Tab.{tab, each}
 use Rattle.answers.specs.Answers.{done, emptyScreen}
 use Rattle.words.specs.Fields.{layerOf}
@@ -118,7 +119,7 @@ module _ (pictures : List ℕ) (two : length pictures ≡ 8) where
   frame-accepted = passes
 
   pub host-accepted : host.hostAnswer image 1 blank pictures filled ≡ done
-  unfolding wordsOpen host.hostAnswer host.wordsOf host.wordAt tab painting.paintRefusal
+  unfolding wordsOpen host.hostAnswer host.wordsOf littleAt tab painting.paintRefusal
   host-accepted = rw (eq-eqb _ _ blank-long, two)
 
   -- ---- what is promised: the frame of the scene
@@ -132,7 +133,7 @@ module _ (pictures : List ℕ) (two : length pictures ≡ 8) where
   framed-is = rw passes
 
   pub host-scene : hostScene pictures ≡ scene pictures
-  unfolding wordsOpen host.wordsOf host.wordAt tab
+  unfolding wordsOpen host.wordsOf littleAt tab
   host-scene = refl
 
   pub hosted-is : hosted pictures ≡ painting.frameOf (scene pictures)

@@ -1,8 +1,9 @@
 // A line gathered from blocks of bytes, and done once it has ended.
 use crate::line;
 use display::Display;
+use numbers::least;
 ghost use mathlib.Core.Path.{_≡_};
-ghost use Prim.Native.Nat.{_≤_, min};
+ghost use Prim.Native.Nat.{_≤_};
 ghost use lib.ListN.{length, take};
 ghost use Rattle.lists.specs.Over.{over};
 ghost use Rattle.lines.specs.Blocks.{keptOf, lineIn, fedRun, fedOf};
@@ -21,15 +22,6 @@ pub struct Fed {
     pub used: usize,
     // How many bytes were printed.
     pub length: usize,
-}
-
-fn least(a: usize, b: usize) -> usize
-    ensures { λ r. ⌜ r ≡ min a b ⌝ }
-{
-    if a < b {
-        return a;
-    }
-    b
 }
 
 // The bytes of a part behind those of the line that have come; how many are now kept.

@@ -6,3 +6,4 @@ pub mod Zero
 pub mod Steps
 pub mod Over
 pub mod Cut
+pub mod Little

@@ -1,7 +1,7 @@
 // What is the same for a whole painting, worked out once: for each layer of the band, in the order of
 // painting, where it lies on a line, its alpha, and where its picture or its tables stand.
 ghost use mathlib.Core.Path.{_≡_};
-ghost use Prim.Native.Nat.{_+_, _<_, _≤_, min};
+ghost use Prim.Native.Nat.{_+_, _<_, _≤_};
 ghost use lib.ListN.{length, take, drop};
 ghost use Rattle.words.specs.Pictures.{pictureStart};
 ghost use Rattle.tables.specs.Geometry.{tablesLen};
@@ -12,6 +12,7 @@ ghost use Rattle.paint.specs.Plan.{Made, Planned, Grown, Empty, Numbered
 use draw::ListEnd;
 use draw::list_end;
 use mix::fade;
+use numbers::least;
 use span::palette;
 use tables::COLOURS_LEN;
 use tables::LIST_LEN;
@@ -44,15 +45,6 @@ pub struct Step {
 pub struct Plan {
     pub steps: [Step; 8],
     pub count: usize,
-}
-
-fn least(a: usize, b: usize) -> usize
-    ensures { λ r. ⌜ r ≡ min a b ⌝ }
-{
-    if a <= b {
-        return a;
-    }
-    b
 }
 
 // The end of the instruction list at a place of the tables.

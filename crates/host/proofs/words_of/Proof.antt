@@ -20,8 +20,14 @@ abbrev μ-loop : tie.MeasureT-loop
 loop-holds : tie.Need-loop-holds Inv-loop μ-loop
 loop-holds c = (search needs, words-none _)
 
+mul-word : tie.Need-mul-word Inv-loop μ-loop
+mul-word c = search needs
+
 word-requires : tie.Need-word-requires Inv-loop μ-loop
 word-requires c κs = search needs
+
+cast-words : tie.Need-cast-words Inv-loop μ-loop
+cast-words c = search needs
 
 mul-words : tie.Need-mul-words Inv-loop μ-loop
 mul-words c = search needs
@@ -36,7 +42,7 @@ loop-less : tie.Need-loop-less Inv-loop μ-loop
 loop-less c = search needs
 
 loop-again : tie.Need-loop-again Inv-loop μ-loop
-loop-again c = (search needs, upto-set _ _ (c .before .before .loop .inv .1) refl refl (omega arith) (c .word .ensures))
+loop-again c = (search needs, upto-set _ _ (c .before .before .loop .inv .1) refl refl (omega arith) (c .word .ensures .0))
 
 returns : tie.Need-returns Inv-loop μ-loop
 returns c = words-all _ _ _ (omega arith) (omega arith) (c .before .loop .inv .1)
@@ -48,7 +54,9 @@ words-of-spec =
     Inv-loop
     μ-loop
     loop-holds
+    mul-word
     word-requires
+    cast-words
     mul-words
     array-write-words
     add-i

@@ -1,20 +1,16 @@
--- `host::word` meets its contract: four bytes make a number of 32 bits. Assumes nothing.
+-- `numbers::word` meets its contract: four bytes make less than 2 ^ 32, so that no step wraps.
+-- Assumes nothing.
+use native.Mathlib.Omega.{arith}
 use borrow.Author.Needs.{needs}
-use Rattle.host.specs.Host.{wordAt}
-use Rattle.host.proofs.word.Statement.{statement}
-use Rattle.host.proofs.word.Tie as tie
-
-mul-wide : tie.Need-mul-wide
-mul-wide c = search needs
+use Rattle.lists.specs.Little.{littleAt}
+use Rattle.numbers.proofs.word.Statement.{statement}
+use Rattle.numbers.proofs.word.Tie as tie
 
 shared-slice-read-wide : tie.Need-shared-slice-read-wide
 shared-slice-read-wide c = search needs
 
 wide-requires : tie.Need-wide-requires
 wide-requires c κs = search needs
-
-mul-wide-2 : tie.Need-mul-wide-2
-mul-wide-2 c = search needs
 
 add-wide : tie.Need-add-wide
 add-wide c = search needs
@@ -25,14 +21,11 @@ shared-slice-read-wide-2 c = search needs
 wide-requires-2 : tie.Need-wide-requires-2
 wide-requires-2 c κs = search needs
 
-mul-low : tie.Need-mul-low
-mul-low c = search needs
+mul-result : tie.Need-mul-result
+mul-result c = search needs
 
-add-low : tie.Need-add-low
-add-low c = search needs
-
-mul-wide-3 : tie.Need-mul-wide-3
-mul-wide-3 c = search needs
+add-result : tie.Need-add-result
+add-result c = search needs
 
 add-wide-2 : tie.Need-add-wide-2
 add-wide-2 c = search needs
@@ -43,11 +36,11 @@ shared-slice-read-wide-3 c = search needs
 wide-requires-3 : tie.Need-wide-requires-3
 wide-requires-3 c κs = search needs
 
-mul-high : tie.Need-mul-high
-mul-high c = search needs
+mul-result-2 : tie.Need-mul-result-2
+mul-result-2 c = search needs
 
-mul-wide-4 : tie.Need-mul-wide-4
-mul-wide-4 c = search needs
+add-result-2 : tie.Need-add-result-2
+add-result-2 c = search needs
 
 add-wide-3 : tie.Need-add-wide-3
 add-wide-3 c = search needs
@@ -58,42 +51,35 @@ shared-slice-read-wide-4 c = search needs
 wide-requires-4 : tie.Need-wide-requires-4
 wide-requires-4 c κs = search needs
 
-mul-high-2 : tie.Need-mul-high-2
-mul-high-2 c = search needs
+mul-result-3 : tie.Need-mul-result-3
+mul-result-3 c = search needs
 
-add-high : tie.Need-add-high
-add-high c = search needs
-
-add-result : tie.Need-add-result
-add-result c = search needs
+add-result-3 : tie.Need-add-result-3
+add-result-3 c = search needs
 
 returns : tie.Need-returns
-unfolding wordAt
-returns c = rw (c .wide4 .ensures .0, c .before .before .wide3 .ensures .0, c .before .before .before .before .wide2 .ensures .0, c .before .before .before .before .before .before .wide .ensures .0)
+unfolding littleAt
+returns c = omega arith
 
 pub word-spec : {M : Type 1} → statement M
 word-spec =
     tie.close
     (tie.spec
-    mul-wide
     shared-slice-read-wide
     wide-requires
-    mul-wide-2
     add-wide
     shared-slice-read-wide-2
     wide-requires-2
-    mul-low
-    add-low
-    mul-wide-3
+    mul-result
+    add-result
     add-wide-2
     shared-slice-read-wide-3
     wide-requires-3
-    mul-high
-    mul-wide-4
+    mul-result-2
+    add-result-2
     add-wide-3
     shared-slice-read-wide-4
     wide-requires-4
-    mul-high-2
-    add-high
-    add-result
+    mul-result-3
+    add-result-3
     returns)
