@@ -68,3 +68,22 @@ pub fn fill(out: &mut [u8], c0: u8, c1: u8, c2: u8)
     let i = rows::fill_blocks(out, c0, c1, c2);
     rows::fill_rest(out, i, c0, c1, c2);
 }
+
+// Blends the run `over` over a row of one opaque colour, each pixel at its own alpha. What `out` held
+// does not count, so that such a row is not written twice.
+pub fn lay(out: &mut [u8], over: &[u8], c0: u8, c1: u8, c2: u8)
+    requires { ⌜ (length (now out) ≡ length (now over)) × (length (now out) % 4 ≡ 0) ⌝ }
+    ensures { λ _. ⌜ now (out .exit) ≡ each (overByte (now (over .entry)) false 0) (tab (length (now (out .entry))) (fillByte c0 c1 c2)) ⌝ }
+{
+    fill(out, c0, c1, c2);
+    blend(out, over);
+}
+
+// The same with all pixels at one alpha.
+pub fn lay_flat(out: &mut [u8], over: &[u8], alpha: u8, c0: u8, c1: u8, c2: u8)
+    requires { ⌜ (length (now out) ≡ length (now over)) × (length (now out) % 4 ≡ 0) ⌝ }
+    ensures { λ _. ⌜ now (out .exit) ≡ each (overByte (now (over .entry)) true alpha) (tab (length (now (out .entry))) (fillByte c0 c1 c2)) ⌝ }
+{
+    fill(out, c0, c1, c2);
+    blend_flat(out, over, alpha);
+}
