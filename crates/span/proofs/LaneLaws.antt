@@ -10,7 +10,7 @@ use lib.Seq.{getD-set-same, getD-set-other}
 use borrow.Author.Tests.{eq-eqb, ne-eqb}
 use Rattle.lists.proofs.Choice.{split, parity}
 use Rattle.mix.specs.Blend.{blendOf}
-use Rattle.span.specs.Lanes.{Part, Lanes, anew, byParity, Bytes, PixelIs, HighIs, SameIs, Small, MixWord, MixIs, HalfIs, AllAlpha, storeByte}
+use Rattle.span.specs.Lanes.{Part, Lanes, anew, byParity, Bytes, PixelIs, HighIs, SameIs, Small, MixWord, MixIs, HalfIs, HasAlpha, AllAlpha, storeByte}
 use Rattle.span.proofs.PartLaws.{part-set}
 
 -- ---- an array filled from the front
@@ -115,27 +115,38 @@ by-words P at e o i h1 h2 = ⊎-elim
     (λ (z : (i - at) % 2 ≡ 1). let q : i ≡ at + 2 * ((i - at) / 2) + 1 = omega arith in rw q (o ((i - at) / 2) (omega arith)))
     (parity (i - at))
 
--- ---- pixels of one alpha, counted
+-- ---- pixels of one alpha
 
--- n of the first k pixels from `at` have the alpha a
-pub record Counted (s : List ℕ) (at a n k : ℕ) : Type 0 where
-  pub most : n ≤ k
-  pub all : n ≡ k → (j : ℕ) → j < k → getD s (at + 4 * j + 3) 0 ≡ a
+-- no pixel is above m
+pub record AtMost (m k v : ℕ) : Type 0 where
+  pub most : v ≤ m
 
-pub counted-none : (s : List ℕ) (at a : ℕ) → Counted s at a 0 0
-counted-none s at a = record { most = omega arith; all = λ e j lt. absurd (not-suc-le-zero lt) }
+-- none is below m, and each is a word of four bytes
+pub record AtLeast (m k v : ℕ) : Type 0 where
+  pub least : m ≤ v
+  pub word : v < 4294967296
 
-pub counted-hit : {s p : List ℕ} {at a n k x : ℕ} → Counted s at a n k → Lanes p 16 (PixelIs s at) → k < 16 → x ≡ getD p k 0 / 16777216 → x ≡ a → Counted s at a (n + 1) (k + 1)
-counted-hit {s} {p} {at} {a} {n} {k} {x} c ep lt e h = record {
-  most = let q = c .most in omega arith;
-  all = λ q j lj. ⊎-elim
-      (λ (lo : j < k). c .all (omega arith) j lo)
-      (λ (ge : k ≤ j). let jk : j ≡ k = omega arith in rw jk (sym (ep .lane k lt .bytes .p3) ∙ sym e ∙ h))
+-- a longer front, by what is so of its last lane
+lanes-more : {w : List ℕ} {k : ℕ} {P Q : ℕ → ℕ → Type 0} → Lanes w k P → ((j v : ℕ) → P j v → Q j v) → Q k (getD w k 0) → Lanes w (k + 1) Q
+lanes-more {w} {k} {P} {Q} e f q = record {
+  lane = λ j lt. ⊎-elim
+      (λ (lo : j < k). f j (getD w j 0) (e .lane j lo))
+      (λ (ge : k ≤ j). let z : j ≡ k = omega arith in rw z q)
       (split j k);
 }
 
-pub counted-miss : {s : List ℕ} {at a n k : ℕ} → Counted s at a n k → Counted s at a n (k + 1)
-counted-miss {s} {at} {a} {n} {k} c = record { most = let q = c .most in omega arith; all = λ q j lj. absurd (let m = c .most in let z : ⊥ = omega arith in z) }
+pub most-turn : {p : List ℕ} {k m n : ℕ} → Lanes p k (AtMost m) → (m ≤ n) × (getD p k 0 ≤ n) → Lanes p (k + 1) (AtMost n)
+most-turn e h = lanes-more e (λ j v q. record { most = let z = q .most in omega (arith, h .0) }) (record { most = h .1 })
 
-pub counted-all : {s : List ℕ} {at a n k : ℕ} → Counted s at a n k → k ≡ 16 → n ≡ 16 → AllAlpha s at 16 a
-counted-all {s} {at} {a} {n} {k} c ek en = record { all = λ j lt. c .all (omega arith) j (omega arith) }
+pub least-turn : {p : List ℕ} {k m n : ℕ} → Lanes p k (AtLeast m) → (n ≤ m) × (n ≤ getD p k 0) × (getD p k 0 < 4294967296) → Lanes p (k + 1) (AtLeast n)
+least-turn e h = lanes-more e (λ j v q. record { least = let z = q .least in omega (arith, h .0); word = q .word }) (record { least = h .1; word = h .2 })
+
+pub most-clear : {p : List ℕ} {k m : ℕ} → Lanes p k (AtMost m) → k ≡ 16 → m < 16777216 → Lanes p 16 (HasAlpha 0)
+most-clear e ek h = record { lane = λ j lt. record { is = let q = e .lane j (omega arith) .most in omega arith } }
+
+pub least-opaque : {p : List ℕ} {k m : ℕ} → Lanes p k (AtLeast m) → k ≡ 16 → 4278190080 ≤ m → Lanes p 16 (HasAlpha 255)
+least-opaque e ek h = record { lane = λ j lt. record { is = let q = e .lane j (omega arith) in omega (arith, q .least, q .word) } }
+
+-- the pixels of a block of one alpha
+pub alpha-all : {s p : List ℕ} {at a : ℕ} → Lanes p 16 (PixelIs s at) → Lanes p 16 (HasAlpha a) → AllAlpha s at 16 a
+alpha-all ep ea = record { all = λ k lt. sym (ep .lane k lt .bytes .p3) ∙ ea .lane k lt .is }

@@ -2,12 +2,13 @@
 -- cites this file. Assumes nothing.
 use Prim.Native.Nat.{ℕ, _+_, _-_, _*_, _/_, _%_, _≤_, _<_}
 use mathlib.Core.Path.{_≡_}
+use mathlib.Core.Bool.{true}
 use mathlib.Core.List.{List, [], _∷_}
 use lib.ListN.{length, getD}
 use lib.Dec.{eqb}
 use Rattle.lists.specs.Choice.{pick}
 use Rattle.mix.specs.Blend.{blendOf}
-use Rattle.span.specs.Span.{wordByte}
+use Rattle.span.specs.Span.{overByte, wordByte}
 
 -- ---- parts of a run
 
@@ -67,6 +68,10 @@ pub record HighIs (over : List ℕ) (k v : ℕ) : Type 0 where
   pub is : v ≡ getD over (2 * (k / 2) + 1) 0 / 256
   pub small : v < 256
 
+-- the alpha of a pixel
+pub record HasAlpha (a k v : ℕ) : Type 0 where
+  pub is : v / 16777216 ≡ a
+
 pub record SameIs (a k v : ℕ) : Type 0 where
   pub is : v ≡ a
 
@@ -88,6 +93,10 @@ pub record HalfIs (p : List ℕ) (k v : ℕ) : Type 0 where
 -- the channels of a pixel of p with the alpha of one of q
 pub record JoinIs (p q : List ℕ) (k v : ℕ) : Type 0 where
   pub is : v ≡ getD p k 0 % 16777216 + getD q k 0 / 16777216 * 16777216
+
+-- the block of l₀ at `at` with the channels of the pixels p, of whatever run these are
+pub record Copied (p : List ℕ) (at : ℕ) (l l₀ : List ℕ) : Type 0 where
+  pub over : (s : List ℕ) → Lanes p 16 (PixelIs s at) → Part l l₀ (overByte s true 255) at (at + 64)
 
 -- byte i of a block at `at` that holds the words w
 unfoldable pub storeByte : List ℕ → ℕ → ℕ → ℕ

@@ -6,14 +6,15 @@ ghost use Prim.Native.Nat.{_+_, _%_, _≤_};
 ghost use lib.ListN.{length};
 ghost use Rattle.mix.specs.Blend.{blendOf};
 ghost use Rattle.span.specs.Span.{overByte};
-ghost use Rattle.span.specs.Lanes.{Part};
+ghost use Rattle.span.specs.Lanes.{Part, Copied};
 use super::lanes::blended;
 use super::lanes::mixed;
 use super::lanes::one_alpha;
 use super::lanes::own_alphas;
 use super::lanes::store;
 use super::lanes::words;
-use super::pixels::all_alpha;
+use super::pixels::all_clear;
+use super::pixels::all_opaque;
 use super::pixels::halves;
 use super::pixels::joined;
 use super::pixels::pixels;
@@ -42,16 +43,24 @@ pub fn flat16(out: &mut [u8], over: &[u8], i: usize, alpha: u8)
     store(out, i, w);
 }
 
-// All pixels at the alpha 255: their channels, with the alphas that stood there.
+// The channels of the pixels p, with the alphas that stood there.
+fn put16(out: &mut [u8], p: [u32; 16], i: usize)
+    requires { ⌜ (i + 64 ≤ length (now out)) × (i % 4 ≡ 0) ⌝ }
+    ensures { λ _. ⌜ Copied p i (now (out .exit)) (now (out .entry)) ⌝ }
+{
+    let q = pixels(out, i);
+    let w = joined(p, q);
+    let h = halves(w);
+    store(out, i, h);
+}
+
+// All pixels at the alpha 255.
 pub fn copy16(out: &mut [u8], over: &[u8], i: usize)
     requires { ⌜ (i + 64 ≤ length (now out)) × (i + 64 ≤ length (now over)) × (i % 4 ≡ 0) ⌝ }
     ensures { λ _. ⌜ Part (now (out .exit)) (now (out .entry)) (overByte (now (over .entry)) true 255) i (i + 64) ⌝ }
 {
     let p = pixels(over, i);
-    let q = pixels(out, i);
-    let w = joined(p, q);
-    let h = halves(w);
-    store(out, i, h);
+    put16(out, p, i);
 }
 
 // Each pixel at its own alpha, where nothing is done for a clear block and no byte is blended for
@@ -63,15 +72,17 @@ pub fn block(out: &mut [u8], over: &[u8], i: usize)
 {
     let a = over[i + 3];
     if a == 0 {
-        if all_alpha(over, i, 0) {
+        let p = pixels(over, i);
+        if all_clear(p) {
             return;
         }
         blend16(out, over, i);
         return;
     }
     if a == 255 {
-        if all_alpha(over, i, 255) {
-            copy16(out, over, i);
+        let p = pixels(over, i);
+        if all_opaque(p) {
+            put16(out, p, i);
             return;
         }
         blend16(out, over, i);

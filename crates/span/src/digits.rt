@@ -2,7 +2,7 @@
 // masks and are proved with no file. A word made of parts is said by its digits and not as a sum,
 // so that no caller has to know that a byte is small.
 ghost use mathlib.Core.Path.{_≡_};
-ghost use Prim.Native.Nat.{_+_, _*_, _/_, _%_, _<_};
+ghost use Prim.Native.Nat.{_+_, _*_, _/_, _%_, _≤_, _<_};
 ghost use Rattle.span.specs.Lanes.{Bytes};
 
 pub fn low(x: u16) -> u16
@@ -61,10 +61,19 @@ pub fn pixel_of(c0: u8, c1: u8, c2: u8, alpha: u8) -> u32
     (c0 as u32) + (c1 as u32) * 256 + (c2 as u32) * 65536 + (alpha as u32) * 16777216
 }
 
-pub fn alpha_of(pixel: u32) -> u32
-    ensures { λ r. ⌜ r ≡ pixel / 16777216 ⌝ }
+// The bits that one of two words has, or both: no less than either.
+pub fn either(a: u32, b: u32) -> u32
+    ensures { λ r. ⌜ (a ≤ r) × (b ≤ r) ⌝ }
 {
-    pixel / 16777216
+    a | b
+}
+
+// The bits that both words have: no more than either. The other bound saves the caller a look at
+// the array that b comes from.
+pub fn common(a: u32, b: u32) -> u32
+    ensures { λ r. ⌜ (r ≤ a) × (r ≤ b) × (b < 4294967296) ⌝ }
+{
+    a & b
 }
 
 // The channels of the one pixel with the alpha of the other.

@@ -5,9 +5,10 @@ ghost use mathlib.Core.Path.{_≡_};
 ghost use mathlib.Core.Bool.{true};
 ghost use Prim.Native.Nat.{_+_, _≤_};
 ghost use lib.ListN.{length};
-ghost use Rattle.span.specs.Lanes.{Lanes, PixelIs, HalfIs, JoinIs, SameIs, AllAlpha};
-use super::digits::alpha_of;
+ghost use Rattle.span.specs.Lanes.{Lanes, PixelIs, HalfIs, JoinIs, SameIs, HasAlpha};
 use super::digits::channels_with;
+use super::digits::common;
+use super::digits::either;
 use super::digits::high_word;
 use super::digits::low_word;
 use super::digits::pixel_of;
@@ -31,23 +32,31 @@ pub fn pixels(s: &[u8], at: usize) -> [u32; 16]
     w
 }
 
-// Whether every pixel of the block at `at` has the alpha a. It counts them, since a loop that
-// leaves at the first other one is not done many at a time.
-pub fn all_alpha(s: &[u8], at: usize, a: u8) -> bool
-    requires { ⌜ at + 64 ≤ length (now s) ⌝ }
-    ensures { λ r. ⌜ (r ≡ true → AllAlpha (now (s .entry)) at 16 a) ⌝ }
+// Whether every pixel has the alpha 0. All are joined and tested once, since a loop that leaves at
+// the first other one is not done many at a time.
+pub fn all_clear(p: [u32; 16]) -> bool
+    ensures { λ r. ⌜ (r ≡ true → Lanes p 16 (HasAlpha 0)) ⌝ }
 {
-    let p = pixels(s, at);
-    let w = a as u32;
-    let mut n = 0u32;
+    let mut any = 0u32;
     let mut k = 0;
     while k < 16 {
-        if alpha_of(p[k]) == w {
-            n = n + 1;
-        }
+        any = either(any, p[k]);
         k = k + 1;
     }
-    n == 16
+    any < 16777216
+}
+
+// Whether every pixel has the alpha 255.
+pub fn all_opaque(p: [u32; 16]) -> bool
+    ensures { λ r. ⌜ (r ≡ true → Lanes p 16 (HasAlpha 255)) ⌝ }
+{
+    let mut all = 4294967295u32;
+    let mut k = 0;
+    while k < 16 {
+        all = common(all, p[k]);
+        k = k + 1;
+    }
+    4278190080 <= all
 }
 
 // The channels of the one block with the alphas of the other.

@@ -2,6 +2,7 @@
 -- one alpha of 0 or 255 makes of it. Assumes nothing.
 use mathlib.Core.Path.{refl}
 use borrow.Author.Needs.{needs}
+use Rattle.span.proofs.LaneLaws.{alpha-all}
 use Rattle.span.proofs.OverParts.{clear-block, own-part}
 use Rattle.span.proofs.blocks.block.Statement.{statement}
 use Rattle.span.proofs.blocks.block.Tie as tie
@@ -12,11 +13,14 @@ add-a c = search needs
 shared-slice-read-a : tie.Need-shared-slice-read-a
 shared-slice-read-a c = search needs
 
-all-alpha-requires : tie.Need-all-alpha-requires
-all-alpha-requires c κs = search needs
+pixels-requires : tie.Need-pixels-requires
+pixels-requires c κs = search needs
+
+all-clear-requires : tie.Need-all-clear-requires
+all-clear-requires c κs = search needs
 
 returns : tie.Need-returns
-returns c = own-part _ _ 16 0 (search needs) (c .before .all-alpha .ensures (search needs)) refl (clear-block _ _ _)
+returns c = own-part _ _ 16 0 (search needs) (alpha-all (c .before .before .pixels .ensures) (c .before .all-clear .ensures (search needs))) refl (clear-block _ _ _)
 
 blend16-requires : tie.Need-blend16-requires
 blend16-requires c κs = search needs
@@ -27,17 +31,23 @@ same-length c = search needs
 returns-2 : tie.Need-returns-2
 returns-2 c = search needs
 
-all-alpha-requires-2 : tie.Need-all-alpha-requires-2
-all-alpha-requires-2 c κs = search needs
+pixels-requires-2 : tie.Need-pixels-requires-2
+pixels-requires-2 c κs = search needs
 
-copy16-requires : tie.Need-copy16-requires
-copy16-requires c κs = search needs
+all-opaque-requires : tie.Need-all-opaque-requires
+all-opaque-requires c κs = search needs
+
+put16-requires : tie.Need-put16-requires
+put16-requires c κs = search needs
 
 same-length-2 : tie.Need-same-length-2
 same-length-2 c = search needs
 
 returns-3 : tie.Need-returns-3
-returns-3 c = own-part _ _ 16 255 (search needs) (c .before .before .before .before .before .all-alpha2 .ensures (search needs)) refl (c .before .before .copy16 .ensures)
+returns-3 c =
+    let tested = c .before .before .before .before .before in
+    let p = tested .before .pixels2 .ensures in
+    own-part _ _ 16 255 (search needs) (alpha-all p (tested .all-opaque .ensures (search needs))) refl (c .before .before .put16 .ensures .over _ p)
 
 blend16-requires-2 : tie.Need-blend16-requires-2
 blend16-requires-2 c κs = search needs
@@ -63,13 +73,15 @@ block-spec =
     (tie.spec
     add-a
     shared-slice-read-a
-    all-alpha-requires
+    pixels-requires
+    all-clear-requires
     returns
     blend16-requires
     same-length
     returns-2
-    all-alpha-requires-2
-    copy16-requires
+    pixels-requires-2
+    all-opaque-requires
+    put16-requires
     same-length-2
     returns-3
     blend16-requires-2

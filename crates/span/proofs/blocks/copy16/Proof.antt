@@ -1,43 +1,19 @@
--- `span::blocks::copy16` meets its contract: what is stored are the joined pixels. Assumes nothing.
+-- `span::blocks::copy16` meets its contract: at the alpha 255 the channels are copied. Assumes nothing.
 use borrow.Author.Needs.{needs}
-use Rattle.span.proofs.OverParts.{copy-block}
 use Rattle.span.proofs.blocks.copy16.Statement.{statement}
 use Rattle.span.proofs.blocks.copy16.Tie as tie
 
 pixels-requires : tie.Need-pixels-requires
 pixels-requires c κs = search needs
 
-pixels-requires-2 : tie.Need-pixels-requires-2
-pixels-requires-2 c κs = search needs
-
-joined-requires : tie.Need-joined-requires
-joined-requires c κs = search needs
-
-halves-requires : tie.Need-halves-requires
-halves-requires c κs = search needs
-
-store-requires : tie.Need-store-requires
-store-requires c κs = search needs
+put16-requires : tie.Need-put16-requires
+put16-requires c κs = search needs
 
 same-length : tie.Need-same-length
 same-length c = search needs
 
 returns : tie.Need-returns
-returns c =
-    let join = c .before .before .before .before .before in
-    let second = join .before in
-    let first = second .before .before in
-    copy-block _ _ _ (search needs) (first .pixels .ensures) (second .pixels2 .ensures) (join .joined .ensures)
-    (c .before .before .before .before .halves .ensures) (c .before .before .store .ensures)
+returns c = c .before .before .put16 .ensures .over _ (c .before .before .before .before .pixels .ensures)
 
 pub copy16-spec : {M : Type 1} → statement M
-copy16-spec =
-    tie.close
-    (tie.spec
-    pixels-requires
-    pixels-requires-2
-    joined-requires
-    halves-requires
-    store-requires
-    same-length
-    returns)
+copy16-spec = tie.close (tie.spec pixels-requires put16-requires same-length returns)
