@@ -6,3 +6,4 @@ mod LaneLaws
 mod PixelLaws
 mod OverParts
 mod RowParts
+mod GroundLaws

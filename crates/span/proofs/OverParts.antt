@@ -38,18 +38,18 @@ alphas-own {over} {ow} {al} {at} eo ea = record {
 pub alphas-one : (over : List ℕ) (at : ℕ) {a : ℕ} {al : List ℕ} → Lanes al 32 (SameIs a) → Lanes al 32 (AlphaIs over at true a)
 alphas-one over at ea = record { lane = λ k lt. record { is = ea .lane k lt .is } }
 
-module _ (out over : List ℕ) (g : Bool) (a at : ℕ) (h : at % 4 ≡ 0) where
-  pub mix-block : {l ow uw al w : List ℕ} → Lanes ow 32 (WordIs over at) → Lanes uw 32 (WordIs out at) → Lanes al 32 (AlphaIs over at g a) → Lanes w 32 (MixIs al ow uw)
-      → Part l out (anew (storeByte w at)) at (at + 64) → Part l out (overByte over g a) at (at + 64)
-  mix-block {l} {ow} {uw} {al} {w} eo eu ea ew p = part-cong p (by-words (λ (i : ℕ). storeByte w at i ≡ overByte over g a i (getD out i 0)) at even odd)
+module _ (under over : List ℕ) (g : Bool) (a at : ℕ) (h : at % 4 ≡ 0) where
+  pub mix-bytes : {ow uw al w : List ℕ} → Lanes ow 32 (WordIs over at) → Lanes uw 32 (WordIs under at) → Lanes al 32 (AlphaIs over at g a) → Lanes w 32 (MixIs al ow uw)
+      → (i : ℕ) → at ≤ i → i < at + 64 → storeByte w at i ≡ overByte over g a i (getD under i 0)
+  mix-bytes {ow} {uw} {al} {w} eo eu ea ew = by-words (λ (i : ℕ). storeByte w at i ≡ overByte over g a i (getD under i 0)) at even odd
     where
-      even : (k : ℕ) → k < 32 → storeByte w at (at + 2 * k) ≡ overByte over g a (at + 2 * k) (getD out (at + 2 * k) 0)
+      even : (k : ℕ) → k < 32 → storeByte w at (at + 2 * k) ≡ overByte over g a (at + 2 * k) (getD under (at + 2 * k) 0)
       even k lt =
           storeByte-even w at k ∙ ew .lane k lt .mix .low
           ∙ rw (ea .lane k lt .is, eo .lane k lt .low, eu .lane k lt .low)
           (sym (overByte-channel over g a (at + 2 * k) _ (at + 4 * (k / 2) + 3) (omega arith) (omega arith)))
 
-      odd : (k : ℕ) → k < 32 → storeByte w at (at + 2 * k + 1) ≡ overByte over g a (at + 2 * k + 1) (getD out (at + 2 * k + 1) 0)
+      odd : (k : ℕ) → k < 32 → storeByte w at (at + 2 * k + 1) ≡ overByte over g a (at + 2 * k + 1) (getD under (at + 2 * k + 1) 0)
       odd k lt = storeByte-odd w at k ∙ ew .lane k lt .mix .high ∙ ⊎-elim
           (λ (z : k % 2 ≡ 0).
           let m : (at + 2 * k + 1) % 4 ≡ 1 = mod-of (at + 2 * k + 1) 4 (at / 4 + k / 2) 1 (omega arith) (omega arith) in
@@ -59,6 +59,10 @@ module _ (out over : List ℕ) (g : Bool) (a at : ℕ) (h : at % 4 ≡ 0) where
           let m : (at + 2 * k + 1) % 4 ≡ 3 = mod-of (at + 2 * k + 1) 4 (at / 4 + k / 2) 3 (omega arith) (omega arith) in
           rw (byParity-odd k (getD al k 0) 0 z, blendOf-clear, eu .lane k lt .high) (sym (overByte-alpha over g a (at + 2 * k + 1) _ m)))
           (parity k)
+
+pub mix-block : (out over : List ℕ) (g : Bool) (a at : ℕ) → at % 4 ≡ 0 → {l ow uw al w : List ℕ} → Lanes ow 32 (WordIs over at) → Lanes uw 32 (WordIs out at)
+    → Lanes al 32 (AlphaIs over at g a) → Lanes w 32 (MixIs al ow uw) → Part l out (anew (storeByte w at)) at (at + 64) → Part l out (overByte over g a) at (at + 64)
+mix-block out over g a at h eo eu ea ew p = part-cong p (mix-bytes out over g a at h eo eu ea ew)
 
 -- ---- clear and opaque blocks
 
@@ -72,28 +76,32 @@ pub own-part : (over : List ℕ) (at n a : ℕ) {l l₀ : List ℕ} {b : ℕ} �
 own-part over at n a {l} {l₀} {b} h all e p = part-cong p (λ i h1 h2.
     overByte-own over i (getD l₀ i 0) (at + 4 * ((i - at) / 4) + 3) a (omega arith) (all .all ((i - at) / 4) (omega arith)))
 
-module _ (out over : List ℕ) (at : ℕ) (h : at % 4 ≡ 0) where
+module _ (under over : List ℕ) (at : ℕ) (h : at % 4 ≡ 0) where
   abbrev copied : ℕ → ℕ
-  copied i = overByte over true 255 i (getD out i 0)
+  copied i = overByte over true 255 i (getD under i 0)
 
-  copied-bytes : (v j : ℕ) → j % 4 ≡ 0 → Bytes v (getD over j 0) (getD over (j + 1) 0) (getD over (j + 2) 0) (getD out (j + 3) 0)
+  copied-bytes : (v j : ℕ) → j % 4 ≡ 0 → Bytes v (getD over j 0) (getD over (j + 1) 0) (getD over (j + 2) 0) (getD under (j + 3) 0)
       → Bytes v (copied j) (copied (j + 1)) (copied (j + 2)) (copied (j + 3))
   copied-bytes v j hj b = record {
-    p0 = b .p0 ∙ sym (overByte-opaque over j (getD out j 0) (omega arith));
-    p1 = b .p1 ∙ sym (overByte-opaque over (j + 1) (getD out (j + 1) 0) (omega arith));
-    p2 = b .p2 ∙ sym (overByte-opaque over (j + 2) (getD out (j + 2) 0) (omega arith));
-    p3 = b .p3 ∙ sym (overByte-alpha over true 255 (j + 3) (getD out (j + 3) 0) (omega arith));
+    p0 = b .p0 ∙ sym (overByte-opaque over j (getD under j 0) (omega arith));
+    p1 = b .p1 ∙ sym (overByte-opaque over (j + 1) (getD under (j + 1) 0) (omega arith));
+    p2 = b .p2 ∙ sym (overByte-opaque over (j + 2) (getD under (j + 2) 0) (omega arith));
+    p3 = b .p3 ∙ sym (overByte-alpha over true 255 (j + 3) (getD under (j + 3) 0) (omega arith));
   }
 
-  pub copy-block : {l p q w hw : List ℕ} → Lanes p 16 (PixelIs over at) → Lanes q 16 (PixelIs out at) → Lanes w 16 (JoinIs p q) → Lanes hw 32 (HalfIs w)
-      → Part l out (anew (storeByte hw at)) at (at + 64) → Part l out (overByte over true 255) at (at + 64)
-  copy-block {l} {p} {q} {w} {hw} ep eq ew eh pt = part-cong pt (λ i h1 h2.
+  pub copy-bytes : {p q w hw : List ℕ} → Lanes p 16 (PixelIs over at) → Lanes q 16 (PixelIs under at) → Lanes w 16 (JoinIs p q) → Lanes hw 32 (HalfIs w)
+      → (i : ℕ) → at ≤ i → i < at + 64 → storeByte hw at i ≡ copied i
+  copy-bytes {p} {q} {w} {hw} ep eq ew eh i h1 h2 =
       let m = (i - at) / 4 in
       let lm : m < 16 = omega arith in
       halves-byte w hw at h eh i h1 h2
       ∙ wordByte-is _ _ _ _ _ i (copied-bytes (getD w m 0) (at + 4 * m) (omega arith)
       (join-bytes _ _ _ _ _ _ _ _ _ _ _ (ew .lane m lm .is) (ep .lane m lm .bytes) (eq .lane m lm .bytes)))
-      ∙ pixelByte-is copied (at + 4 * m) i (omega arith) (omega arith) (omega arith))
+      ∙ pixelByte-is copied (at + 4 * m) i (omega arith) (omega arith) (omega arith)
+
+pub copy-block : (out over : List ℕ) (at : ℕ) → at % 4 ≡ 0 → {l p q w hw : List ℕ} → Lanes p 16 (PixelIs over at) → Lanes q 16 (PixelIs out at)
+    → Lanes w 16 (JoinIs p q) → Lanes hw 32 (HalfIs w) → Part l out (anew (storeByte hw at)) at (at + 64) → Part l out (overByte over true 255) at (at + 64)
+copy-block out over at h ep eq ew eh pt = part-cong pt (copy-bytes out over at h ep eq ew eh)
 
 -- ---- single pixels, and a whole run
 

@@ -2,7 +2,7 @@
 -- cites this file. Assumes nothing.
 use Prim.Native.Nat.{ℕ, _+_, _-_, _*_, _/_, _%_, _≤_, _<_}
 use mathlib.Core.Path.{_≡_}
-use mathlib.Core.Bool.{true}
+use mathlib.Core.Bool.{Bool, true}
 use mathlib.Core.List.{List, [], _∷_}
 use lib.ListN.{length, getD}
 use lib.Dec.{eqb}
@@ -28,6 +28,10 @@ pub record Front (l l₀ : List ℕ) (g : ℕ → ℕ → ℕ) (b : ℕ) : Type 
 -- a rule that goes by the index alone
 abbrev pub anew : (ℕ → ℕ) → ℕ → ℕ → ℕ
 anew f i p = f i
+
+-- byte i of a run over a row that goes by the rule f
+unfoldable pub laidByte : List ℕ → Bool → ℕ → (ℕ → ℕ) → ℕ → ℕ
+laidByte over global alpha f i = overByte over global alpha i (f i)
 
 -- byte i of four words as pixels, from `at` on
 unfoldable pub wordsByte : ℕ → ℕ → ℕ → ℕ → ℕ → ℕ → ℕ

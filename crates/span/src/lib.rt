@@ -10,6 +10,7 @@ ghost use Rattle.span.specs.Span.{overByte, colourByte, fillByte, Palett
 
 mod blocks;
 mod digits;
+mod grounds;
 mod lanes;
 mod pixels;
 mod rows;
@@ -75,8 +76,9 @@ pub fn lay(out: &mut [u8], over: &[u8], c0: u8, c1: u8, c2: u8)
     requires { ⌜ (length (now out) ≡ length (now over)) × (length (now out) % 4 ≡ 0) ⌝ }
     ensures { λ _. ⌜ now (out .exit) ≡ each (overByte (now (over .entry)) false 0) (tab (length (now (out .entry))) (fillByte c0 c1 c2)) ⌝ }
 {
-    fill(out, c0, c1, c2);
-    blend(out, over);
+    let i = grounds::lay_blocks(out, over, c0, c1, c2);
+    rows::fill_rest(out, i, c0, c1, c2);
+    runs::own_rest(out, over, i);
 }
 
 // The same with all pixels at one alpha.
@@ -84,6 +86,7 @@ pub fn lay_flat(out: &mut [u8], over: &[u8], alpha: u8, c0: u8, c1: u8, c2: u8)
     requires { ⌜ (length (now out) ≡ length (now over)) × (length (now out) % 4 ≡ 0) ⌝ }
     ensures { λ _. ⌜ now (out .exit) ≡ each (overByte (now (over .entry)) true alpha) (tab (length (now (out .entry))) (fillByte c0 c1 c2)) ⌝ }
 {
-    fill(out, c0, c1, c2);
-    blend_flat(out, over, alpha);
+    let i = grounds::lay_flat_blocks(out, over, alpha, c0, c1, c2);
+    rows::fill_rest(out, i, c0, c1, c2);
+    runs::flat_rest(out, over, i, alpha);
 }

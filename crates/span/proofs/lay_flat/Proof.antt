@@ -1,20 +1,24 @@
--- `span::lay_flat` meets its contract: a filled row, and the run over it. Assumes nothing.
-use mathlib.Core.Path.{ap, _∙_}
+-- `span::lay_flat` meets its contract: the blocks are laid, and the rest is filled and blended. Assumes
+-- nothing.
 use borrow.Author.Needs.{needs}
+use Rattle.span.proofs.GroundLaws.{lay-each}
 use Rattle.span.proofs.lay_flat.Statement.{statement}
 use Rattle.span.proofs.lay_flat.Tie as tie
 
-fill-requires : tie.Need-fill-requires
-fill-requires c κs = search needs
+lay-flat-blocks-requires : tie.Need-lay-flat-blocks-requires
+lay-flat-blocks-requires c κs = search needs
 
-blend-flat-requires : tie.Need-blend-flat-requires
-blend-flat-requires c κs = search needs
+fill-rest-requires : tie.Need-fill-rest-requires
+fill-rest-requires c κs = search needs
+
+flat-rest-requires : tie.Need-flat-rest-requires
+flat-rest-requires c κs = search needs
 
 same-length : tie.Need-same-length
 same-length c = search needs
 
 returns : tie.Need-returns
-returns c = rw (← c .before .before .before .before .before .before .fill .ensures) (c .before .before .blend-flat .ensures)
+returns c = search (lay-each, needs)
 
 pub lay-flat-spec : {M : Type 1} → statement M
-lay-flat-spec = tie.close (tie.spec fill-requires blend-flat-requires same-length returns)
+lay-flat-spec = tie.close (tie.spec lay-flat-blocks-requires fill-rest-requires flat-rest-requires same-length returns)

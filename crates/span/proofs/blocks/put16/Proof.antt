@@ -22,8 +22,10 @@ same-length c = search needs
 returns : tie.Need-returns
 returns c =
     let join = c .before .before .before .before .before in
-    record { over = λ s ep. copy-block _ _ _ (search needs) ep (join .before .pixels .ensures) (join .joined .ensures)
-        (c .before .before .before .before .halves .ensures) (c .before .before .store .ensures) }
+    record {
+      over = λ s ep. copy-block _ _ _ (search needs) ep (join .before .pixels .ensures) (join .joined .ensures)
+          (c .before .before .before .before .halves .ensures) (c .before .before .store .ensures);
+    }
 
 pub put16-spec : {M : Type 1} → statement M
 put16-spec =

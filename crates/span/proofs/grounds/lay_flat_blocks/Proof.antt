@@ -1,0 +1,64 @@
+-- `span::grounds::lay_flat_blocks` meets its contract: the loop has laid a part of the run, from its front up
+-- to i; the measure is what is left. Assumes nothing.
+use mathlib.Core.Path.{_≡_}
+use mathlib.Core.Bool.{true}
+use Prim.Native.Nat.{_-_, _%_, _≤_}
+use native.Mathlib.Omega.{arith}
+use lib.ListN.{length}
+use borrow.Author.Needs.{needs}
+use Rattle.span.specs.Span.{fillByte}
+use Rattle.span.specs.Lanes.{Part, anew, laidByte}
+use Rattle.span.proofs.PartLaws.{part-none}
+use Rattle.span.proofs.GroundLaws.{lay-turn}
+use Rattle.span.proofs.grounds.lay_flat_blocks.Statement.{statement}
+use Rattle.span.proofs.grounds.lay_flat_blocks.Tie as tie
+
+abbrev Inv-loop : tie.InvT-loop
+Inv-loop out₀ over alpha c0 c1 c2 c i₀ out i =
+    (i % 4 ≡ 0) × (i ≤ length out₀) × (length out ≡ length out₀) × Part out out₀ (anew (laidByte over true alpha (fillByte c0 c1 c2))) 0 i
+
+abbrev μ-loop : tie.MeasureT-loop
+μ-loop out₀ over alpha c0 c1 c2 c i₀ out i = length out₀ - i
+
+pixel-of-requires : tie.Need-pixel-of-requires Inv-loop μ-loop
+pixel-of-requires c κs = search needs
+
+loop-holds : tie.Need-loop-holds Inv-loop μ-loop
+loop-holds c = (search needs, search needs, search needs, part-none _ _ _ _ (omega arith))
+
+sub-loop : tie.Need-sub-loop Inv-loop μ-loop
+sub-loop c = search needs
+
+lay-flat16-requires : tie.Need-lay-flat16-requires Inv-loop μ-loop
+lay-flat16-requires c κs = search needs
+
+add-i : tie.Need-add-i Inv-loop μ-loop
+add-i c = search needs
+
+loop-less : tie.Need-loop-less Inv-loop μ-loop
+loop-less c = search needs
+
+loop-again : tie.Need-loop-again Inv-loop μ-loop
+loop-again c = (search needs, search needs, search needs, search (lay-turn, needs))
+
+same-length : tie.Need-same-length Inv-loop μ-loop
+same-length c = search needs
+
+returns : tie.Need-returns Inv-loop μ-loop
+returns c = search needs
+
+pub lay-flat-blocks-spec : {M : Type 1} → statement M
+lay-flat-blocks-spec =
+    tie.close
+    (tie.spec
+    Inv-loop
+    μ-loop
+    pixel-of-requires
+    loop-holds
+    sub-loop
+    lay-flat16-requires
+    add-i
+    loop-less
+    loop-again
+    same-length
+    returns)

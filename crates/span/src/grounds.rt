@@ -1,0 +1,95 @@
+// A run over a row of one pixel, which is not written first: what is under a block is then known and
+// need not be read.
+ghost use mathlib.Core.Path.{_≡_};
+ghost use mathlib.Core.Bool.{true, false};
+ghost use Prim.Native.Nat.{_+_, _%_, _≤_};
+ghost use lib.ListN.{length};
+ghost use Rattle.span.specs.Span.{wordByte, fillByte};
+ghost use Rattle.span.specs.Lanes.{Part, Front, anew, laidByte};
+use super::digits::pixel_of;
+use super::lanes::mixed;
+use super::lanes::one_alpha;
+use super::lanes::own_alphas;
+use super::lanes::store;
+use super::lanes::words;
+use super::pixels::all_opaque;
+use super::pixels::halves;
+use super::pixels::joined;
+use super::pixels::pixels;
+use super::pixels::repeated;
+
+// A block over the pixel c, each pixel at its own alpha. The pixel comes as one word: sixteen of
+// them by value would be copied each time.
+fn lay16(out: &mut [u8], over: &[u8], c: u32, i: usize)
+    requires { ⌜ (i + 64 ≤ length (now out)) × (i + 64 ≤ length (now over)) × (i % 4 ≡ 0) ⌝ }
+    ensures { λ _. ⌜ Part (now (out .exit)) (now (out .entry)) (anew (laidByte (now (over .entry)) false 0 (wordByte c))) i (i + 64) ⌝ }
+{
+    let o = words(over, i);
+    let p = repeated(c);
+    let u = halves(p);
+    let a = own_alphas(o);
+    let w = mixed(a, o, u);
+    store(out, i, w);
+}
+
+// The same with all pixels at one alpha.
+fn lay_flat16(out: &mut [u8], over: &[u8], c: u32, alpha: u8, i: usize)
+    requires { ⌜ (i + 64 ≤ length (now out)) × (i + 64 ≤ length (now over)) × (i % 4 ≡ 0) ⌝ }
+    ensures { λ _. ⌜ Part (now (out .exit)) (now (out .entry)) (anew (laidByte (now (over .entry)) true alpha (wordByte c))) i (i + 64) ⌝ }
+{
+    let o = words(over, i);
+    let p = repeated(c);
+    let u = halves(p);
+    let a = one_alpha(alpha as u16);
+    let w = mixed(a, o, u);
+    store(out, i, w);
+}
+
+// A block over the pixel c, where no byte is blended for an opaque one. Two calls of `lay16` keep it
+// a function of its own.
+fn lay_block(out: &mut [u8], over: &[u8], c: u32, i: usize)
+    requires { ⌜ (i + 64 ≤ length (now out)) × (i + 64 ≤ length (now over)) × (i % 4 ≡ 0) ⌝ }
+    ensures { λ _. ⌜ Part (now (out .exit)) (now (out .entry)) (anew (laidByte (now (over .entry)) false 0 (wordByte c))) i (i + 64) ⌝ }
+{
+    if over[i + 3] == 255 {
+        let p = pixels(over, i);
+        if all_opaque(p) {
+            let q = repeated(c);
+            let w = joined(p, q);
+            let h = halves(w);
+            store(out, i, h);
+            return;
+        }
+        lay16(out, over, c, i);
+        return;
+    }
+    lay16(out, over, c, i);
+}
+
+// The blocks, each pixel at its own alpha, answering where they end.
+pub fn lay_blocks(out: &mut [u8], over: &[u8], c0: u8, c1: u8, c2: u8) -> usize
+    requires { ⌜ length (now out) ≡ length (now over) ⌝ }
+    ensures { λ r. ⌜ Front (now (out .exit)) (now (out .entry)) (anew (laidByte (now (over .entry)) false 0 (fillByte c0 c1 c2))) r ⌝ }
+{
+    let c = pixel_of(c0, c1, c2, 255);
+    let mut i = 0;
+    while 64 <= over.len() - i {
+        lay_block(out, over, c, i);
+        i = i + 64;
+    }
+    i
+}
+
+// The blocks, all pixels at one alpha.
+pub fn lay_flat_blocks(out: &mut [u8], over: &[u8], alpha: u8, c0: u8, c1: u8, c2: u8) -> usize
+    requires { ⌜ length (now out) ≡ length (now over) ⌝ }
+    ensures { λ r. ⌜ Front (now (out .exit)) (now (out .entry)) (anew (laidByte (now (over .entry)) true alpha (fillByte c0 c1 c2))) r ⌝ }
+{
+    let c = pixel_of(c0, c1, c2, 255);
+    let mut i = 0;
+    while 64 <= over.len() - i {
+        lay_flat16(out, over, c, alpha, i);
+        i = i + 64;
+    }
+    i
+}
