@@ -1,47 +1,63 @@
-/* Scenes that are painted once each, for an emulator that counts the instructions: the subjects at
- * the smaller size, and each step of growth at a quarter of its width and height. */
+/* Paintings for an emulator that logs what is executed: the subjects at the smaller size, then each
+ * step of growth at a quarter of its width and height. */
+#define _XOPEN_SOURCE 700
 #include <stdio.h>
 #include <stdlib.h>
+#include <string.h>
+#include <unistd.h>
 
 #include "growth.h"
-#include "painter.h"
 #include "report.h"
+#include "run.h"
 #include "subjects.h"
 
 enum { DIVISOR = 4 };
 
-static struct scene *subject_scene(int k, char *label, size_t length)
+/* Written at once, so that it stands in the log where it is called, and with little ado: the marks'
+ * own instructions, about ten, are counted with the painting's. */
+static void mark(const char *line)
 {
-    const struct size *size = &SIZE[SIZES - 1];
-    snprintf(label, length, "%s", SUBJECT[k].name);
-    return SUBJECT[k].make(size->width, size->height);
+    if (write(STDOUT_FILENO, line, strlen(line)) < 0)
+        exit(1);
 }
 
-/* Step k, counted through all growths; NULL past the last. */
-static struct scene *growth_scene(int k, char *label, size_t length)
+/* Marks the second painting of two: in the first a library still finds and chooses its code. */
+static void paint_marked(const struct painter *painter, const struct scene *scene)
 {
-    for (int i = 0; i < GROWTHS; i++) {
-        if (k < GROWTH[i].steps) {
-            snprintf(label, length, "%s, doubled %d times", GROWTH[i].what, k);
-            return GROWTH[i].make(k, DIVISOR);
-        }
-        k -= GROWTH[i].steps;
-    }
-    return NULL;
+    struct run run = new_run(painter, scene, room(frame_length(scene)));
+    painter->paint(scene, run.output, run.prepared);
+    mark("begin\n");
+    painter->paint(scene, run.output, run.prepared);
+    mark("end\n");
+    drop_run(&run);
+    free(run.output);
 }
 
-int paint_counted(int k)
+static void paint_subject(const struct subject *subject, const struct size *size)
 {
-    char label[64];
-    struct scene *scene = k < SUBJECTS ? subject_scene(k, label, sizeof label)
-                                       : growth_scene(k - SUBJECTS, label, sizeof label);
-    if (!scene)
-        return 0;
-    uint8_t *output = room(frame_length(scene));
-    SPOONWING.paint(scene, output, NULL);
-    printf("%s, %u x %u\t%zu\n", label, (unsigned)scene->width, (unsigned)scene->height,
-           frame_length(scene) / PIXEL);
-    free(output);
+    struct scene *scene = subject->make(size->width, size->height);
+    dprintf(STDOUT_FILENO, "ratios\t%s, %u x %u\t%u\n", subject->name, (unsigned)size->width,
+            (unsigned)size->height, (unsigned)(size->width * size->height));
+    for (int i = 0; i < PAINTERS; i++)
+        if (PAINTER[i] != &FLOOR)
+            paint_marked(PAINTER[i], scene);
     drop_scene(scene);
-    return 1;
+}
+
+static void paint_growth(const struct growth *growth)
+{
+    dprintf(STDOUT_FILENO, "growth\t%s: %s\n", growth->what, growth->sizes);
+    for (int step = 0; step < growth->steps; step++) {
+        struct scene *scene = growth->make(step, DIVISOR);
+        paint_marked(&SPOONWING, scene);
+        drop_scene(scene);
+    }
+}
+
+void paint_counted(void)
+{
+    for (int i = 0; i < SUBJECTS; i++)
+        paint_subject(&SUBJECT[i], &SIZE[SIZES - 1]);
+    for (int i = 0; i < GROWTHS; i++)
+        paint_growth(&GROWTH[i]);
 }

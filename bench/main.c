@@ -2,25 +2,26 @@
  *
  *     bench              everything
  *     bench --bytes      what needs no clock: the bytes and the stack
- *     bench --paint K    one painting, for an emulator that counts instructions */
+ *     bench --counted    paintings for an emulator that counts instructions */
 #include <stdio.h>
-#include <stdlib.h>
 #include <string.h>
 
 #include "report.h"
 
-static int is_option(int count, char **words, int wanted, const char *name)
+static int is_option(int count, char **words, const char *name)
 {
-    return count == wanted && strcmp(words[1], name) == 0;
+    return count == 2 && strcmp(words[1], name) == 0;
 }
 
 int main(int count, char **words)
 {
-    int is_bytes = is_option(count, words, 2, "--bytes");
-    if (is_option(count, words, 3, "--paint"))
-        return paint_counted(atoi(words[2])) ? 0 : 1;
+    int is_bytes = is_option(count, words, "--bytes");
+    if (is_option(count, words, "--counted")) {
+        paint_counted();
+        return 0;
+    }
     if (count != 1 && !is_bytes) {
-        fprintf(stderr, "usage: bench [--bytes | --paint K]\n");
+        fprintf(stderr, "usage: bench [--bytes | --counted]\n");
         return 2;
     }
     print_bytes();

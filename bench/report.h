@@ -14,9 +14,10 @@ void print_ratios(void);
 /* What doubling the pixels, the layers or the instructions costs. */
 void print_growth(void);
 
-/* Paints scene k of those to be counted once and prints its name and pixels, with a tab between;
- * answers 0 where there is no such scene. */
-int paint_counted(int k);
+/* Paints for an emulator that logs what is executed. Among the log stand a line for each row, its
+ * table, its name and for ratios its pixels, with tabs between, and around each painting of the row
+ * the lines "begin" and "end". */
+void paint_counted(void);
 
 /* A cell with a number and, where one is wanted, the most that it may be. */
 void print_cell(double number, double wanted);
