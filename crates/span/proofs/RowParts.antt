@@ -1,11 +1,13 @@
 -- Pixels written to a row, as parts of it. Assumes nothing.
 use mathlib.Core.Path.{_≡_, refl, sym, ap, _∙_}
 use mathlib.Core.List.{List, [], _∷_}
+use mathlib.Core.Logic.{⊎-elim}
 use Prim.Native.Nat.{ℕ, zero, suc, _+_, _-_, _*_, _/_, _%_, _≤_, _<_}
 use native.Mathlib.Omega.{arith}
 use lib.ListN.{length, getD, set}
+use Rattle.lists.proofs.Choice.{split}
 use Rattle.span.specs.Span.{pixelByte, wordByte, colourByte, fillByte}
-use Rattle.span.specs.Lanes.{Part, Lanes, anew, Bytes, SameIs, HalfIs, storeByte, wordsByte}
+use Rattle.span.specs.Lanes.{Part, Lanes, anew, Bytes, EightIs, SameIs, HalfIs, Same, storeByte, wordsByte}
 use Rattle.span.proofs.PartLaws.{part-none, part-set, part-then, part-turn, part-cong, part-to}
 use Rattle.span.proofs.RowLaws.{pixelByte-at}
 use Rattle.span.proofs.PixelLaws.{halves-byte, wordByte-is}
@@ -19,6 +21,10 @@ module _ (c0 c1 c2 c3 at : ℕ) (h : at % 4 ≡ 0) where
       halves-byte p w at h ew i h1 h2
       ∙ ap (λ (v : ℕ). wordByte v i) (ep .lane ((i - at) / 4) (omega arith) .is)
       ∙ wordByte-is c c0 c1 c2 c3 i b)
+
+pub word-block : (c at : ℕ) → at % 4 ≡ 0 → {l l₀ p w : List ℕ} → Lanes p 16 (SameIs c) → Lanes w 32 (HalfIs p) → Part l l₀ (anew (storeByte w at)) at (at + 64)
+    → Part l l₀ (anew (wordByte c)) at (at + 64)
+word-block c at h ep ew pt = fill-block _ _ _ _ at h (record { p0 = refl; p1 = refl; p2 = refl; p3 = refl }) ep ew pt
 
 pub fill-turn : {r l l₀ p w : List ℕ} (c0 c1 c2 : ℕ) {c i : ℕ} → Part l l₀ (anew (fillByte c0 c1 c2)) 0 i → i % 4 ≡ 0 → Bytes c c0 c1 c2 255 → Lanes p 16 (SameIs c) → Lanes w 32 (HalfIs p)
     → Part r l (anew (storeByte w i)) i (i + 64) → Part r l₀ (anew (fillByte c0 c1 c2)) 0 (i + 64)
@@ -39,6 +45,35 @@ pub word-part : {l l₀ : List ℕ} {a b : ℕ} (c b0 b1 b2 b3 : ℕ) → Part l
     → Part l l₀ (anew (wordByte c)) a b
 word-part c b0 b1 b2 b3 p e0 e1 e2 e3 = rw (← e0, ← e1, ← e2, ← e3) p
 
+-- ---- bytes that are one
+
+same-four : {s : List ℕ} {at c v p : ℕ} → Bytes v (getD s at 0) (getD s (at + 1) 0) (getD s (at + 2) 0) (getD s (at + 3) 0) → Bytes p c c c c → v ≡ p → Same s at 4 c
+same-four {s} {at} {c} {v} {p} b q e = record { all = go }
+  where
+    go : (k : ℕ) → k < 4 → getD s (at + k) 0 ≡ c
+    go zero lt = ap (λ (n : ℕ). getD s n 0) (let z : at + 0 ≡ at = omega arith in z) ∙ sym (b .p0) ∙ ap (λ (n : ℕ). n % 256) e ∙ q .p0
+    go (suc zero) lt = sym (b .p1) ∙ ap (λ (n : ℕ). n / 256 % 256) e ∙ q .p1
+    go (suc (suc zero)) lt = sym (b .p2) ∙ ap (λ (n : ℕ). n / 65536 % 256) e ∙ q .p2
+    go (suc (suc (suc zero))) lt = sym (b .p3) ∙ ap (λ (n : ℕ). n / 16777216) e ∙ q .p3
+    go (suc (suc (suc (suc k)))) lt = absurd (let z : ⊥ = omega arith in z)
+
+same-then : {s : List ℕ} {at n m c : ℕ} → Same s at n c → Same s (at + n) m c → Same s at (n + m) c
+same-then {s} {at} {n} {m} {c} a b = record {
+  all = λ k lt. ⊎-elim
+      (λ (lo : k < n). a .all k lo)
+      (λ (ge : n ≤ k). ap (λ (j : ℕ). getD s j 0) (let z : at + k ≡ at + n + (k - n) = omega arith in z) ∙ b .all (k - n) (omega arith))
+      (split k n);
+}
+
+-- sixteen, compared by eight with a pair of words of one byte
+module _ {s : List ℕ} {c p q : ℕ} (bp : Bytes p c c c c) (eq : (q % 4294967296 ≡ p) × (q / 4294967296 ≡ p)) where
+  same-eight : {at v : ℕ} → EightIs s at v → v ≡ q → Same s at 8 c
+  same-eight {at} {v} b e =
+      same-then (same-four (b .low) bp (ap (λ (n : ℕ). n % 4294967296) e ∙ eq .0)) (same-four (b .high) bp (ap (λ (n : ℕ). n / 4294967296) e ∙ eq .1))
+
+  pub same-sixteen : {at v w : ℕ} → EightIs s at v → v ≡ q → EightIs s (at + 8) w → w ≡ q → Same s at 16 c
+  same-sixteen bv ev bw ew = same-then (same-eight bv ev) (same-eight bw ew)
+
 -- ---- words, and a line of indexes
 
 module _ (c0 c1 c2 c3 at : ℕ) where
@@ -54,6 +89,15 @@ module _ (c0 c1 c2 c3 at : ℕ) where
       (one-word 0 c0 p0 (omega arith) refl refl) (one-word 1 c1 p1 (omega arith) refl refl) (omega arith) (omega arith)) (let z : at + 4 + 4 ≡ at + 8 = omega arith in z))
       (one-word 2 c2 p2 (omega arith) refl refl) (omega arith) (omega arith)) (let z : at + 8 + 4 ≡ at + 12 = omega arith in z))
       (one-word 3 c3 p3 (omega arith) refl refl) (omega arith) (omega arith)) (omega arith)
+
+-- a block of one index
+pub colour-same : (line palette : List ℕ) (j x : ℕ) {r l : List ℕ} → Part r l (anew (wordByte (getD palette x 0))) (4 * j) (4 * j + 64) → x ≡ getD line j 0 % 16
+    → Same line j 16 (getD line j 0) → Part r l (anew (colourByte line palette)) (4 * j) (4 * (j + 16))
+unfolding colourByte
+colour-same line palette j x q ex e =
+    part-to (part-cong q (λ i h1 h2. ap (λ (n : ℕ). wordByte (getD palette n 0) i)
+    (ex ∙ ap (λ (n : ℕ). n % 16) (sym (e .all (i / 4 - j) (omega arith)) ∙ ap (λ (n : ℕ). getD line n 0) (let z : j + (i / 4 - j) ≡ i / 4 = omega arith in z)))))
+    (omega arith)
 
 module _ (line palette : List ℕ) {l₀ : List ℕ} {b : ℕ} where
   pub colour-turn : (j x : ℕ) {r l : List ℕ} → Part l l₀ (anew (colourByte line palette)) b (4 * j) → b ≤ 4 * j → Part r l (anew (wordByte (getD palette x 0))) (4 * j) (4 * j + 4)

@@ -37,6 +37,10 @@ laidByte over global alpha f i = overByte over global alpha i (f i)
 unfoldable pub wordsByte : ℕ → ℕ → ℕ → ℕ → ℕ → ℕ → ℕ
 wordsByte c0 c1 c2 c3 at i = wordByte (getD (c0 ∷ c1 ∷ c2 ∷ c3 ∷ []) ((i - at) / 4) 0) i
 
+-- the n bytes from `at` on are c
+pub record Same (s : List ℕ) (at n c : ℕ) : Type 0 where
+  pub all : (k : ℕ) → k < n → getD s (at + k) 0 ≡ c
+
 -- each of the n pixels from `at` has the alpha a
 pub record AllAlpha (s : List ℕ) (at n a : ℕ) : Type 0 where
   pub all : (k : ℕ) → k < n → getD s (at + 4 * k + 3) 0 ≡ a
@@ -62,6 +66,11 @@ pub record Bytes (v b0 b1 b2 b3 : ℕ) : Type 0 where
   pub p1 : v / 256 % 256 ≡ b1
   pub p2 : v / 65536 % 256 ≡ b2
   pub p3 : v / 16777216 ≡ b3
+
+-- eight bytes of s, from `at` on
+pub record EightIs (s : List ℕ) (at v : ℕ) : Type 0 where
+  pub low : Bytes (v % 4294967296) (getD s at 0) (getD s (at + 1) 0) (getD s (at + 2) 0) (getD s (at + 3) 0)
+  pub high : Bytes (v / 4294967296) (getD s (at + 4) 0) (getD s (at + 4 + 1) 0) (getD s (at + 4 + 2) 0) (getD s (at + 4 + 3) 0)
 
 -- four bytes of s: pixel k of the block at `at`
 pub record PixelIs (s : List ℕ) (at k v : ℕ) : Type 0 where

@@ -61,6 +61,12 @@ pub fn pixel_of(c0: u8, c1: u8, c2: u8, alpha: u8) -> u32
     (c0 as u32) + (c1 as u32) * 256 + (c2 as u32) * 65536 + (alpha as u32) * 16777216
 }
 
+pub fn pair(low: u32, high: u32) -> u64
+    ensures { λ r. ⌜ (r % 4294967296 ≡ low) × (r / 4294967296 ≡ high) ⌝ }
+{
+    (low as u64) + (high as u64) * 4294967296
+}
+
 // The bits that one of two words has, or both: no less than either.
 pub fn either(a: u32, b: u32) -> u32
     ensures { λ r. ⌜ (a ≤ r) × (b ≤ r) ⌝ }

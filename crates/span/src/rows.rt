@@ -1,14 +1,16 @@
 // The loops that write a row without regard to what it held: a line of colour indexes as pixels,
 // and one pixel over and over.
 ghost use mathlib.Core.Path.{_≡_};
+ghost use mathlib.Core.Bool.{true};
 ghost use Prim.Native.Nat.{_+_, _*_, _%_, _≤_, _<_};
-ghost use lib.ListN.{length};
+ghost use lib.ListN.{length, getD};
 ghost use Rattle.span.specs.Span.{pixelByte, wordByte, colourByte, fillByte};
-ghost use Rattle.span.specs.Lanes.{Part, Front, anew, wordsByte};
+ghost use Rattle.span.specs.Lanes.{Part, Front, anew, wordsByte, Bytes, EightIs, Same};
 use super::digits::byte0;
 use super::digits::byte1;
 use super::digits::byte2;
 use super::digits::byte3;
+use super::digits::pair;
 use super::digits::pixel_of;
 use super::lanes::store;
 use super::pixels::halves;
@@ -51,21 +53,88 @@ fn put_words(out: &mut [u8], i: usize, c0: u32, c1: u32, c2: u32, c3: u32)
     put_word(out, i + 12, c3);
 }
 
-// The pixels of a line four at a time, answering where the fours end. All four colours are read
-// before the first is written, and they are read in this loop: a palette that is handed on by value
-// for each pixel is copied each time.
-pub fn expand_fours(line: &[u8], palette: [u32; 16], row: &mut [u8]) -> usize
-    requires { ⌜ length (now row) ≡ 4 * length (now line) ⌝ }
-    ensures { λ r. ⌜ Front (now (row .exit)) (now (row .entry)) (anew (colourByte (now (line .entry)) palette)) (4 * r) ⌝ }
+// Four indexes from j on, as one word.
+fn four(line: &[u8], j: usize) -> u32
+    requires { ⌜ j + 4 ≤ length (now line) ⌝ }
+    ensures { λ r. ⌜ Bytes r (getD (now (line .entry)) j 0) (getD (now (line .entry)) (j + 1) 0) (getD (now (line .entry)) (j + 2) 0) (getD (now (line .entry)) (j + 3) 0) ⌝ }
 {
-    let mut j = 0;
-    while 4 <= line.len() - j {
+    pixel_of(line[j], line[j + 1], line[j + 2], line[j + 3])
+}
+
+// Eight of them.
+fn eight(line: &[u8], j: usize) -> u64
+    requires { ⌜ j + 8 ≤ length (now line) ⌝ }
+    ensures { λ r. ⌜ EightIs (now (line .entry)) j r ⌝ }
+{
+    pair(four(line, j), four(line, j + 4))
+}
+
+// Whether the sixteen indexes from j on are one. Eight are compared at once.
+fn is_one(line: &[u8], j: usize) -> bool
+    requires { ⌜ j + 16 ≤ length (now line) ⌝ }
+    ensures { λ r. ⌜ (r ≡ true → Same (now (line .entry)) j 16 (getD (now (line .entry)) j 0)) ⌝ }
+{
+    let c = line[j];
+    let p = pixel_of(c, c, c, c);
+    let q = pair(p, p);
+    if eight(line, j) != q {
+        return false;
+    }
+    eight(line, j + 8) == q
+}
+
+// Writes the pixel c sixteen times, from i on.
+fn repeat16(row: &mut [u8], i: usize, c: u32)
+    requires { ⌜ (i + 64 ≤ length (now row)) × (i % 4 ≡ 0) ⌝ }
+    ensures { λ _. ⌜ Part (now (row .exit)) (now (row .entry)) (anew (wordByte c)) i (i + 64) ⌝ }
+{
+    let p = repeated(c);
+    let h = halves(p);
+    store(row, i, h);
+}
+
+// The pixels of sixteen indexes, four at a time. All four colours are read before the first is
+// written, and they are read in this loop: a palette that is handed on by value for each pixel is
+// copied each time.
+fn expand16(line: &[u8], palette: [u32; 16], row: &mut [u8], from: usize)
+    requires { ⌜ (length (now row) ≡ 4 * length (now line)) × (from + 16 ≤ length (now line)) ⌝ }
+    ensures { λ _. ⌜ Part (now (row .exit)) (now (row .entry)) (anew (colourByte (now (line .entry)) palette)) (4 * from) (4 * (from + 16)) ⌝ }
+{
+    let mut k = 0;
+    while k < 4 {
+        let j = from + 4 * k;
         let c0 = palette[index_of(line[j])];
         let c1 = palette[index_of(line[j + 1])];
         let c2 = palette[index_of(line[j + 2])];
         let c3 = palette[index_of(line[j + 3])];
         put_words(row, 4 * j, c0, c1, c2, c3);
-        j = j + 4;
+        k = k + 1;
+    }
+}
+
+// The pixels of the block of indexes from j on. Most of a drawn line is one colour for long, which is
+// then read once.
+fn expand_block(line: &[u8], palette: [u32; 16], row: &mut [u8], j: usize)
+    requires { ⌜ (length (now row) ≡ 4 * length (now line)) × (j + 16 ≤ length (now line)) ⌝ }
+    ensures { λ _. ⌜ Part (now (row .exit)) (now (row .entry)) (anew (colourByte (now (line .entry)) palette)) (4 * j) (4 * (j + 16)) ⌝ }
+{
+    if is_one(line, j) {
+        let c = palette[index_of(line[j])];
+        repeat16(row, 4 * j, c);
+        return;
+    }
+    expand16(line, palette, row, j);
+}
+
+// The pixels of a line, block by block, answering where the blocks end.
+pub fn expand_blocks(line: &[u8], palette: [u32; 16], row: &mut [u8]) -> usize
+    requires { ⌜ length (now row) ≡ 4 * length (now line) ⌝ }
+    ensures { λ r. ⌜ Front (now (row .exit)) (now (row .entry)) (anew (colourByte (now (line .entry)) palette)) (4 * r) ⌝ }
+{
+    let mut j = 0;
+    while 16 <= line.len() - j {
+        expand_block(line, palette, row, j);
+        j = j + 16;
     }
     j
 }

@@ -1,11 +1,11 @@
--- `span::expand` meets its contract: the fours and the rest are the whole row. Assumes nothing.
+-- `span::expand` meets its contract: the blocks and the rest are the whole row. Assumes nothing.
 use borrow.Author.Needs.{needs}
 use Rattle.span.proofs.PartLaws.{front-tab}
 use Rattle.span.proofs.expand.Statement.{statement}
 use Rattle.span.proofs.expand.Tie as tie
 
-expand-fours-requires : tie.Need-expand-fours-requires
-expand-fours-requires c κs = search needs
+expand-blocks-requires : tie.Need-expand-blocks-requires
+expand-blocks-requires c κs = search needs
 
 expand-rest-requires : tie.Need-expand-rest-requires
 expand-rest-requires c κs = search needs
@@ -17,4 +17,4 @@ returns : tie.Need-returns
 returns c = search (front-tab, needs)
 
 pub expand-spec : {M : Type 1} → statement M
-expand-spec = tie.close (tie.spec expand-fours-requires expand-rest-requires same-length returns)
+expand-spec = tie.close (tie.spec expand-blocks-requires expand-rest-requires same-length returns)

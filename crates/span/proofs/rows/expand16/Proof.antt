@@ -1,28 +1,32 @@
--- `span::rows::expand_fours` meets its contract: the loop has written the pixels of the first j
--- indexes, and a turn writes four more; the measure is what is left. Assumes nothing.
+-- `span::rows::expand16` meets its contract: the loop has written the pixels of the first 4 k indexes,
+-- and a turn writes four more; the measure is what is left. Assumes nothing.
 use mathlib.Core.Path.{_≡_}
-use Prim.Native.Nat.{_-_, _*_, _≤_}
+use Prim.Native.Nat.{_+_, _-_, _*_, _≤_}
 use native.Mathlib.Omega.{arith}
 use lib.ListN.{length}
 use borrow.Author.Needs.{needs}
 use Rattle.span.specs.Span.{colourByte}
 use Rattle.span.specs.Lanes.{Part, anew}
-use Rattle.span.proofs.PartLaws.{part-none}
+use Rattle.span.proofs.PartLaws.{part-none, part-to}
 use Rattle.span.proofs.RowParts.{colour-four}
-use Rattle.span.proofs.rows.expand_fours.Statement.{statement}
-use Rattle.span.proofs.rows.expand_fours.Tie as tie
+use Rattle.span.proofs.rows.expand16.Statement.{statement}
+use Rattle.span.proofs.rows.expand16.Tie as tie
 
 abbrev Inv-loop : tie.InvT-loop
-Inv-loop line row₀ palette j₀ row j = (j ≤ length line) × (length row ≡ length row₀) × Part row row₀ (anew (colourByte line palette)) 0 (4 * j)
+Inv-loop line row₀ from palette k₀ row k =
+    (k ≤ 4) × (length row ≡ length row₀) × Part row row₀ (anew (colourByte line palette)) (4 * from) (4 * (from + 4 * k))
 
 abbrev μ-loop : tie.MeasureT-loop
-μ-loop line row₀ palette j₀ row j = length line - j
+μ-loop line row₀ from palette k₀ row k = 4 - k
 
 loop-holds : tie.Need-loop-holds Inv-loop μ-loop
 loop-holds c = (search needs, search needs, part-none _ _ _ _ (omega arith))
 
-sub-loop : tie.Need-sub-loop Inv-loop μ-loop
-sub-loop c = search needs
+mul-j : tie.Need-mul-j Inv-loop μ-loop
+mul-j c = search needs
+
+add-j : tie.Need-add-j Inv-loop μ-loop
+add-j c = search needs
 
 shared-slice-read-index-of : tie.Need-shared-slice-read-index-of Inv-loop μ-loop
 shared-slice-read-index-of c = search needs
@@ -87,8 +91,8 @@ mul-put-words c = search needs
 put-words-requires : tie.Need-put-words-requires Inv-loop μ-loop
 put-words-requires c κs = search needs
 
-add-j : tie.Need-add-j Inv-loop μ-loop
-add-j c = search needs
+add-k : tie.Need-add-k Inv-loop μ-loop
+add-k c = search needs
 
 loop-less : tie.Need-loop-less Inv-loop μ-loop
 loop-less c = search needs
@@ -103,24 +107,25 @@ loop-again c =
     let head = first .before .before .before in (
       search needs,
       search needs,
-      colour-four _ _ _ _ _ _ _ (head .loop .inv .2) (omega arith) (put .put-words .ensures)
-          (first .index-of .ensures .0) (second .index-of2 .ensures .0) (third .index-of3 .ensures .0) (fourth .index-of4 .ensures .0),
+      part-to (colour-four _ _ _ _ _ _ _ (head .loop .inv .2) (omega arith) (put .put-words .ensures)
+          (first .index-of .ensures .0) (second .index-of2 .ensures .0) (third .index-of3 .ensures .0) (fourth .index-of4 .ensures .0)) (omega arith),
     )
 
 same-length : tie.Need-same-length Inv-loop μ-loop
 same-length c = search needs
 
 returns : tie.Need-returns Inv-loop μ-loop
-returns c = search needs
+returns c = part-to (c .before .loop .inv .2) (omega arith)
 
-pub expand-fours-spec : {M : Type 1} → statement M
-expand-fours-spec =
+pub expand16-spec : {M : Type 1} → statement M
+expand16-spec =
     tie.close
     (tie.spec
     Inv-loop
     μ-loop
     loop-holds
-    sub-loop
+    mul-j
+    add-j
     shared-slice-read-index-of
     index-of-requires
     mul-c0
@@ -142,7 +147,7 @@ expand-fours-spec =
     array-read-c3
     mul-put-words
     put-words-requires
-    add-j
+    add-k
     loop-less
     loop-again
     same-length
