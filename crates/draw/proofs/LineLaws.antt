@@ -4,7 +4,8 @@ use mathlib.Core.Path.{_≡_, refl, sym, ap, _∙_}
 use mathlib.Core.Bool.{Bool, true, false}
 use mathlib.Core.Logic.{_⊎_, ⊎-elim}
 use mathlib.Core.List.{List}
-use Prim.Native.Nat.{ℕ, _+_, _-_, _*_, _/_, _%_, _≤_, _<_}
+use Prim.Native.Nat.{ℕ, _+_, _-_, _*_, _/_, _%_, _^_, _≤_, _<_}
+use native.Mathlib.Nat.{zero-div}
 use native.Mathlib.Numerals.{add-one}
 use native.Mathlib.Omega.{arith}
 use lib.ListN.{length, getD}
@@ -12,7 +13,7 @@ use borrow.Author.Tests.{ne-eqb}
 use Rattle.lists.specs.Tab.{tab, each}
 use Rattle.lists.specs.Zero.{zeroFrom}
 use Rattle.lists.proofs.Zero.{zero-stops, zero-ends}
-use Rattle.lists.proofs.Tab.{is-tab, tab-cong, length-tab, getD-tab, length-each, getD-each, each-cong, each-id, each-then}
+use Rattle.lists.proofs.Tab.{is-tab, is-each, tab-cong, length-tab, getD-tab, length-each, getD-each, each-cong, each-id, each-then}
 use Rattle.lists.specs.Little.{littleAt}
 use Rattle.draw.specs.Instruction.{scaleOf, opcode}
 use Rattle.draw.specs.Box.{boxAfter, boxOf}
@@ -21,7 +22,7 @@ use Rattle.draw.specs.Drawing.{drawnBy, drawnTo, countOf, indexAt}
 use Rattle.draw.specs.Rows.{runAfter, pixelAfter, wholeOf}
 use Rattle.draw.proofs.RunLaws.{run-in}
 use Rattle.draw.proofs.BoxLaws.{box-past, box-above, box-below, box-whole, box-sides, whole-across}
-use Rattle.draw.proofs.TextLaws.{row-none, row-more, pixel-none, pixel-run, pixel-row, stringPixel-at, text-above, text-below, text-number, text-row}
+use Rattle.draw.proofs.TextLaws.{row-left, row-none, row-clear, row-more, pixel-none, pixel-run, pixel-row, stringPixel-at, zeroFrom-ge, text-above, text-below, text-number, text-row}
 
 -- ---- a box
 
@@ -66,9 +67,17 @@ module _ (z : ℕ) (pos : 0 < z) (x colour : ℕ) (p : ℕ → ℕ) (l : List �
   pub row-line-none : l ≡ each (rowAfter p 0 z x colour) l
   row-line-none = each-id _ l (row-none z pos x colour p)
 
+  -- a row that begins at the line's end, or past it
+  pub row-line-past : (n : ℕ) → length l ≤ x → l ≡ each (rowAfter p n z x colour) l
+  row-line-past n h = is-each l l _ refl (λ u b. sym (row-left z pos x colour p n u _ (omega arith)))
+
   pub row-line-more : (a b at : ℕ) (q : ℕ → ℕ) {l′ l″ : List ℕ} → at ≡ x + a * z → ((j : ℕ) → j < b → q j ≡ p (a + j))
       → l′ ≡ each (rowAfter p a z x colour) l → l″ ≡ each (rowAfter q b z at colour) l′ → l″ ≡ each (rowAfter p (a + b) z x colour) l
   row-line-more a b at q ea same e e′ = each-then _ _ _ l e e′ (row-more z pos x colour a b at p q ea same)
+
+pub cell-clear : (z bits x colour : ℕ) (l : List ℕ) → 0 < z → bits ≡ 0 → l ≡ each (rowAfter (pixelOf bits) 8 z x colour) l
+unfolding pixelOf
+cell-clear z bits x colour l pos h = each-id _ l (row-clear z pos x colour (pixelOf bits) 8 (λ j. rw (h, zero-div (2 ^ (7 - j))) refl))
 
 pub cell-more : (z bits x colour n at pixel : ℕ) (l : List ℕ) {l′ l″ : List ℕ} → 0 < z → at ≡ x + n * z → pixel ≡ pixelOf bits n
     → l′ ≡ each (rowAfter (pixelOf bits) n z x colour) l → l″ ≡ each (pixelAfter pixel z at colour) l′
@@ -87,9 +96,17 @@ string-more strings font n row z x colour i at c bits l pos ea ec eb e e′ =
     rw q (row-line-more z pos x colour (stringPixel strings font n row) l (8 * i) 8 at (pixelOf bits) ea
     (λ j h. rw (eb, ec) (stringPixel-at strings font n row i j h)) e e′)
 
--- where the loop over the characters ends: at a zero byte, or after them all
+-- where the loop over the characters ends: at the line's end, at a zero byte, or after them all
 module _ (strings font : List ℕ) (n row z x colour i : ℕ) (l : List ℕ) {l′ : List ℕ} (left : zeroFrom (32 - i) (character strings n) i ≡ shownOf strings n)
     (e : l′ ≡ each (rowAfter (stringPixel strings font n row) (8 * i) z x colour) l) where
+  pub string-past : (at : ℕ) → 0 < z → at ≡ x + 8 * i * z → length l′ ≤ at → l′ ≡ each (stringAfter strings font n row z x colour) l
+  string-past at pos ea h =
+      let p : ℕ → ℕ = stringPixel strings font n row in
+      let b : ℕ = 8 * (shownOf strings n - i) in
+      let q : 8 * i + b ≡ 8 * shownOf strings n = omega (arith, zeroFrom-ge (32 - i) (character strings n) i) in
+      rw q at (row-line-more z pos x colour p l (8 * i) b at (λ j. p (8 * i + j)) ea (λ j _. refl) e
+      (row-line-past z pos at colour (λ j. p (8 * i + j)) l′ b h))
+
   pub string-stops : i < 32 → character strings n i ≡ 0 → l′ ≡ each (stringAfter strings font n row z x colour) l
   string-stops h c = rw (sym (zero-stops 32 (character strings n) i h c) ∙ left) at e
 

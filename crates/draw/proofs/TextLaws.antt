@@ -1,14 +1,17 @@
 -- Laws of text: a row of pixels is drawn part by part, from the left; a row beside the text is left.
 -- Assumes nothing.
-use mathlib.Core.Path.{_≡_, sym, ap, _∙_}
+use mathlib.Core.Path.{_≡_, refl, sym, ap, _∙_}
 use mathlib.Core.Logic.{⊎-elim}
 use mathlib.Core.List.{List}
-use Prim.Native.Nat.{ℕ, _+_, _-_, _*_, _/_, _%_, _≤_, _<_}
+use Prim.Native.Nat.{ℕ, zero, suc, _+_, _-_, _*_, _/_, _%_, _≤_, _<_}
 use native.Mathlib.Nat.{add-mul, div-lt-iff-lt-mul, le-div-iff-mul-le, add-mul-div-right}
 use native.Mathlib.Omega.{arith}
 use lib.ListN.{getD}
+use lib.Dec.{leb, ltb, eqb}
 use borrow.Author.Tests.{le-leb, lt-leb, lt-ltb, le-ltb, eq-eqb, ne-eqb}
-use Rattle.lists.proofs.Choice.{split, both-none}
+use Rattle.lists.specs.Choice.{both}
+use Rattle.lists.specs.Zero.{zeroFrom}
+use Rattle.lists.proofs.Choice.{split, both-none, pick-keeps}
 use Rattle.draw.specs.Text.{character, glyphRow, pixelOf, inked, rowAfter, stringPixel, stringAfter, textAfter}
 use Rattle.draw.specs.Rows.{runAfter, pixelAfter}
 use Rattle.draw.proofs.RunLaws.{run-in, run-left, run-right}
@@ -16,7 +19,7 @@ use Rattle.draw.proofs.RunLaws.{run-in, run-left, run-right}
 -- ---- a row of pixels
 
 module _ (z : ℕ) (pos : 0 < z) (x colour : ℕ) where
-  row-left : (p : ℕ → ℕ) (n u old : ℕ) → u < x → rowAfter p n z x colour u old ≡ old
+  pub row-left : (p : ℕ → ℕ) (n u old : ℕ) → u < x → rowAfter p n z x colour u old ≡ old
   unfolding rowAfter
   row-left p n u old h = simp (lt-leb x u h)
 
@@ -32,6 +35,12 @@ module _ (z : ℕ) (pos : 0 < z) (x colour : ℕ) where
 
   pub row-none : (p : ℕ → ℕ) (u old : ℕ) → rowAfter p 0 z x colour u old ≡ old
   row-none p u old = ⊎-elim (row-left p 0 u old) (λ (g : x ≤ u). row-right p 0 u old (omega arith)) (split u x)
+
+  pub row-clear : (p : ℕ → ℕ) (n : ℕ) → ((j : ℕ) → p j ≡ 0) → (u old : ℕ) → rowAfter p n z x colour u old ≡ old
+  unfolding rowAfter inked
+  row-clear p n none u old =
+      pick-keeps (λ (m : ℕ). m ≡ old) (both (leb x u) (ltb ((u - x) / z) n)) (inked (p ((u - x) / z)) colour old) old
+      (λ _. simp (eq-eqb (p ((u - x) / z)) 0 (none _))) (λ _. refl)
 
 -- a pixels from x and then b more, q, from x + a * z
 pub row-more : (z : ℕ) → 0 < z → (x colour a b at : ℕ) (p q : ℕ → ℕ) → at ≡ x + a * z → ((j : ℕ) → j < b → q j ≡ p (a + j)) → (u old : ℕ)
@@ -88,6 +97,13 @@ pub stringPixel-at : (strings font : List ℕ) (n row i j : ℕ) → j < 8
 unfolding stringPixel
 stringPixel-at strings font n row i j h =
     let a : (8 * i + j) / 8 ≡ i = omega arith in let b : (8 * i + j) % 8 ≡ j = omega arith in rw (a, b)
+
+-- no fewer characters are shown than were passed
+pub zeroFrom-ge : (n : ℕ) (f : ℕ → ℕ) (k : ℕ) → k ≤ zeroFrom n f k
+unfolding zeroFrom
+zeroFrom-ge zero f k = omega arith
+zeroFrom-ge (suc n) f k =
+    pick-keeps (λ (m : ℕ). k ≤ m) (eqb (f k) 0) k (zeroFrom n f (k + 1)) (λ _. omega arith) (λ _. omega (arith, zeroFrom-ge n f (k + 1)))
 
 -- ---- the rows of a text
 

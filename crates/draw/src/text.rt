@@ -47,11 +47,14 @@ fn draw_pixel(line: &mut [u8], pixel: u8, z: usize, x: usize, colour: u8)
     fill_run(line, x, x + z, colour);
 }
 
-// A row of a glyph, pixel by pixel.
+// A row of a glyph, pixel by pixel. Many have no bits: those of a space, those above and below letters.
 fn draw_cell(line: &mut [u8], bits: u8, z: usize, x: usize, colour: u8)
     requires { ⌜ (0 < z) × (z ≤ 8) × (x < 8000) ⌝ }
     ensures { λ _. ⌜ now (line .exit) ≡ each (rowAfter (pixelOf bits) 8 z x colour) (now (line .entry)) ⌝ }
 {
+    if bits == 0 {
+        return;
+    }
     let mut column = 0;
     let mut at = x;
     while column < 8 {
@@ -61,7 +64,8 @@ fn draw_cell(line: &mut [u8], bits: u8, z: usize, x: usize, colour: u8)
     }
 }
 
-// A row of string n, character by character up to the first zero byte.
+// A row of string n, character by character up to the first zero byte, or to the line's end, from
+// which on nothing is drawn.
 fn draw_string(
     line: &mut [u8],
     strings: &[u8],
@@ -79,6 +83,9 @@ fn draw_string(
     let mut i = 0;
     let mut at = x;
     while i < 32 {
+        if line.len() <= at {
+            return;
+        }
         let c = strings[32 * n + i];
         if c == 0 {
             return;

@@ -1,5 +1,6 @@
--- `text::draw_cell` meets its contract: before each turn the columns so far are drawn, and the next one
--- begins where they end. The measure is the columns left. Assumes nothing.
+-- `text::draw_cell` meets its contract: a row without bits leaves the line; before each turn the columns
+-- so far are drawn, and the next one begins where they end. The measure is the columns left.
+-- Assumes nothing.
 use mathlib.Core.Path.{_≡_, ap, _∙_}
 use Prim.Native.Nat.{ℕ, _+_, _-_, _*_, _≤_}
 use native.Mathlib.Nat.{add-mul, one-mul}
@@ -9,7 +10,7 @@ use borrow.Author.Needs.{needs}
 use Rattle.lists.specs.Tab.{each}
 use Rattle.lists.proofs.Tab.{length-each}
 use Rattle.draw.specs.Text.{pixelOf, rowAfter}
-use Rattle.draw.proofs.LineLaws.{row-line-none, cell-more}
+use Rattle.draw.proofs.LineLaws.{row-line-none, cell-clear, cell-more}
 use Rattle.draw.proofs.text.draw_cell.Statement.{statement}
 use Rattle.draw.proofs.text.draw_cell.Tie as tie
 
@@ -19,6 +20,9 @@ Inv-loop line₀ bits z x colour column₀ at₀ line column at =
 
 abbrev μ-loop : tie.MeasureT-loop
 μ-loop line₀ bits z x colour column₀ at₀ line column at = 8 - column
+
+returns : tie.Need-returns Inv-loop μ-loop
+returns c = search (cell-clear, needs)
 
 loop-holds : tie.Need-loop-holds Inv-loop μ-loop
 loop-holds c = (omega arith, omega arith, omega arith, search (row-line-none, needs))
@@ -47,8 +51,8 @@ loop-again c = (omega arith, omega arith, search (next-at, needs), search (cell-
 same-length : tie.Need-same-length Inv-loop μ-loop
 same-length c = ap length (c .before .loop .inv .3) ∙ length-each _ _
 
-returns : tie.Need-returns Inv-loop μ-loop
-returns c =
+returns-2 : tie.Need-returns-2 Inv-loop μ-loop
+returns-2 c =
     let l = c .before .loop in
     let q : l .column ≡ 8 = omega arith in rw q at (l .inv .3)
 
@@ -58,6 +62,7 @@ draw-cell-spec =
     (tie.spec
     Inv-loop
     μ-loop
+    returns
     loop-holds
     pixel-requires
     draw-pixel-requires
@@ -66,4 +71,4 @@ draw-cell-spec =
     loop-less
     loop-again
     same-length
-    returns)
+    returns-2)

@@ -1,6 +1,6 @@
 -- `text::draw_string` meets its contract: before each turn i characters are drawn, the next cell begins
--- where they end, and what is left of the string gives how many it shows. The measure is 32 - i.
--- Assumes nothing.
+-- where they end, and what is left of the string gives how many it shows; from the line's end on it
+-- changes nothing. The measure is 32 - i. Assumes nothing.
 use mathlib.Core.Path.{_≡_, refl, sym, ap, _∙_}
 use mathlib.Core.List.{List}
 use Prim.Native.Nat.{ℕ, _+_, _-_, _*_, _≤_, _<_}
@@ -13,7 +13,7 @@ use Rattle.lists.specs.Zero.{zeroFrom}
 use Rattle.lists.proofs.Tab.{length-each}
 use Rattle.lists.proofs.Zero.{zero-passes}
 use Rattle.draw.specs.Text.{character, shownOf, rowAfter, stringPixel}
-use Rattle.draw.proofs.LineLaws.{row-line-none, string-more, string-stops, string-ends}
+use Rattle.draw.proofs.LineLaws.{row-line-none, string-more, string-past, string-stops, string-ends}
 use Rattle.draw.proofs.text.draw_string.Statement.{statement}
 use Rattle.draw.proofs.text.draw_string.Tie as tie
 
@@ -29,6 +29,12 @@ loop-holds : tie.Need-loop-holds Inv-loop μ-loop
 unfolding shownOf
 loop-holds c = (omega arith, omega arith, omega arith, refl, search (row-line-none, needs))
 
+same-length : tie.Need-same-length Inv-loop μ-loop
+same-length c = ap length (c .before .before .loop .inv .4) ∙ length-each _ _
+
+returns : tie.Need-returns Inv-loop μ-loop
+returns c = search (string-past, needs)
+
 mul-c : tie.Need-mul-c Inv-loop μ-loop
 mul-c c = search needs
 
@@ -38,11 +44,11 @@ add-c c = search needs
 shared-slice-read-c : tie.Need-shared-slice-read-c Inv-loop μ-loop
 shared-slice-read-c c = search needs
 
-same-length : tie.Need-same-length Inv-loop μ-loop
-same-length c = ap length (c .before .before .before .loop .inv .4) ∙ length-each _ _
+same-length-2 : tie.Need-same-length-2 Inv-loop μ-loop
+same-length-2 c = ap length (c .before .before .before .before .loop .inv .4) ∙ length-each _ _
 
-returns : tie.Need-returns Inv-loop μ-loop
-returns c = let h : c .before .before .before .loop .i < 32 = omega arith in search (string-stops, needs)
+returns-2 : tie.Need-returns-2 Inv-loop μ-loop
+returns-2 c = let h : c .before .before .before .before .loop .i < 32 = omega arith in search (string-stops, needs)
 
 glyph-row-requires : tie.Need-glyph-row-requires Inv-loop μ-loop
 glyph-row-requires c κs = search needs
@@ -71,14 +77,14 @@ string-passes strings n i h ne left = sym (zero-passes 32 (character strings n) 
 
 loop-again : tie.Need-loop-again Inv-loop μ-loop
 loop-again c =
-    let h : c .before .before .before .before .before .before .before .before .loop .i < 32 = omega arith in
+    let h : c .before .before .before .before .before .before .before .before .before .loop .i < 32 = omega arith in
     (omega arith, omega arith, search (next-at, needs), search (string-passes, needs), search (string-more, needs))
 
-same-length-2 : tie.Need-same-length-2 Inv-loop μ-loop
-same-length-2 c = ap length (c .before .loop .inv .4) ∙ length-each _ _
+same-length-3 : tie.Need-same-length-3 Inv-loop μ-loop
+same-length-3 c = ap length (c .before .loop .inv .4) ∙ length-each _ _
 
-returns-2 : tie.Need-returns-2 Inv-loop μ-loop
-returns-2 c = search (string-ends, needs)
+returns-3 : tie.Need-returns-3 Inv-loop μ-loop
+returns-3 c = search (string-ends, needs)
 
 pub draw-string-spec : {M : Type 1} → statement M
 draw-string-spec =
@@ -87,11 +93,13 @@ draw-string-spec =
     Inv-loop
     μ-loop
     loop-holds
+    same-length
+    returns
     mul-c
     add-c
     shared-slice-read-c
-    same-length
-    returns
+    same-length-2
+    returns-2
     glyph-row-requires
     draw-cell-requires
     mul-at
@@ -99,5 +107,5 @@ draw-string-spec =
     add-i
     loop-less
     loop-again
-    same-length-2
-    returns-2)
+    same-length-3
+    returns-3)
