@@ -1,5 +1,6 @@
 -- The laws that the crates above cite, and those that the proofs here rest on. Assumes nothing.
 mod RunLaws
+mod BitLaws
 mod BoxLaws
 mod TextLaws
 mod LineLaws

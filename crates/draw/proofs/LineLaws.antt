@@ -13,16 +13,17 @@ use borrow.Author.Tests.{ne-eqb}
 use Rattle.lists.specs.Tab.{tab, each}
 use Rattle.lists.specs.Zero.{zeroFrom}
 use Rattle.lists.proofs.Zero.{zero-stops, zero-ends}
-use Rattle.lists.proofs.Tab.{is-tab, is-each, tab-cong, length-tab, getD-tab, length-each, getD-each, each-cong, each-id, each-then}
+use Rattle.lists.proofs.Tab.{is-tab, is-each, tab-cong, length-tab, getD-tab, length-each, getD-each, each-cong, each-id, each-turn, each-then}
 use Rattle.lists.specs.Little.{littleAt}
 use Rattle.draw.specs.Instruction.{scaleOf, opcode}
 use Rattle.draw.specs.Box.{boxAfter, boxOf}
 use Rattle.draw.specs.Text.{character, shownOf, glyphRow, pixelOf, rowAfter, stringPixel, stringAfter, textOf}
 use Rattle.draw.specs.Drawing.{drawnBy, drawnTo, countOf, indexAt}
-use Rattle.draw.specs.Rows.{runAfter, pixelAfter, wholeOf}
+use Rattle.draw.specs.Rows.{runAfter, wholeOf}
 use Rattle.draw.proofs.RunLaws.{run-in}
 use Rattle.draw.proofs.BoxLaws.{box-past, box-above, box-below, box-whole, box-sides, whole-across}
-use Rattle.draw.proofs.TextLaws.{row-left, row-none, row-clear, row-more, pixel-none, pixel-run, pixel-row, stringPixel-at, zeroFrom-ge, text-above, text-below, text-number, text-row}
+use Rattle.draw.proofs.BitLaws.{beside, runFrom, runTo, pixelOf-run}
+use Rattle.draw.proofs.TextLaws.{row-left, row-none, row-clear, row-more, row-run, stringPixel-at, zeroFrom-ge, text-above, text-below, text-number, text-row}
 
 -- ---- a box
 
@@ -54,14 +55,7 @@ module _ (ins : List ℕ) (k v w2 : ℕ) (l : List ℕ) (e2 : w2 ≡ littleAt in
   unfolding boxOf
   box-line w0 w3 e0 e3 e = e ∙ each-cong _ _ l (λ u old. rw (e0, e2, e3))
 
--- ---- a pixel, a glyph's row, a string's row
-
-module _ (pixel z x colour : ℕ) (l : List ℕ) where
-  pub line-clear : pixel ≡ 0 → l ≡ each (pixelAfter pixel z x colour) l
-  line-clear h = each-id _ l (λ u old. pixel-none pixel z x colour u old h)
-
-  pub line-ink : {l′ : List ℕ} → l′ ≡ each (runAfter x (x + z) colour) l → (pixel ≡ 0 → ⊥) → l′ ≡ each (pixelAfter pixel z x colour) l
-  line-ink e h = e ∙ each-cong _ _ l (λ u old. sym (pixel-run pixel z x colour u old h))
+-- ---- a row of pixels, a glyph's row, a string's row
 
 module _ (z : ℕ) (pos : 0 < z) (x colour : ℕ) (p : ℕ → ℕ) (l : List ℕ) where
   pub row-line-none : l ≡ each (rowAfter p 0 z x colour) l
@@ -75,17 +69,18 @@ module _ (z : ℕ) (pos : 0 < z) (x colour : ℕ) (p : ℕ → ℕ) (l : List �
       → l′ ≡ each (rowAfter p a z x colour) l → l″ ≡ each (rowAfter q b z at colour) l′ → l″ ≡ each (rowAfter p (a + b) z x colour) l
   row-line-more a b at q ea same e e′ = each-then _ _ _ l e e′ (row-more z pos x colour a b at p q ea same)
 
-pub cell-clear : (z bits x colour : ℕ) (l : List ℕ) → 0 < z → bits ≡ 0 → l ≡ each (rowAfter (pixelOf bits) 8 z x colour) l
+-- a cell is drawn once no bits are left; the lowest run is drawn, and the bits beside it are left
+pub cell-done : (z bits x colour : ℕ) (l : List ℕ) {w : List ℕ} → 0 < z → bits ≡ 0 → each (rowAfter (pixelOf bits) 8 z x colour) l ≡ w → l ≡ w
 unfolding pixelOf
-cell-clear z bits x colour l pos h = each-id _ l (row-clear z pos x colour (pixelOf bits) 8 (λ j. rw (h, zero-div (2 ^ (7 - j))) refl))
+cell-done z bits x colour l pos none e =
+    each-id _ l (row-clear z pos x colour (pixelOf bits) 8 (λ j. rw (none, zero-div (2 ^ (7 - j))) refl)) ∙ e
 
-pub cell-more : (z bits x colour n at pixel : ℕ) (l : List ℕ) {l′ l″ : List ℕ} → 0 < z → at ≡ x + n * z → pixel ≡ pixelOf bits n
-    → l′ ≡ each (rowAfter (pixelOf bits) n z x colour) l → l″ ≡ each (pixelAfter pixel z at colour) l′
-    → l″ ≡ each (rowAfter (pixelOf bits) (n + 1) z x colour) l
-cell-more z bits x colour n at pixel l {l′} pos ea ep e e′ =
-    row-line-more z pos x colour (pixelOf bits) l n 1 at (λ j. pixel) ea
-    (λ j h. let q : n + j ≡ n = omega arith in rw q ep) e
-    (e′ ∙ each-cong _ _ l′ (λ u old. pixel-row z pos pixel at colour u old))
+pub cell-turn : (z bits x colour : ℕ) (l : List ℕ) {l′ w : List ℕ} → 0 < z → (bits ≡ 0 → ⊥) → bits < 256
+    → l′ ≡ each (runAfter (x + runFrom bits * z) (x + runTo bits * z) colour) l → each (rowAfter (pixelOf bits) 8 z x colour) l ≡ w
+    → each (rowAfter (pixelOf (beside bits)) 8 z x colour) l′ ≡ w
+cell-turn z bits x colour l pos some h e =
+    each-turn _ _ _ l e (row-run z pos x colour 8 (runFrom bits) (runTo bits) (pixelOf bits) (pixelOf (beside bits)) (omega arith)
+    (pixelOf-run bits some h))
 
 pub string-more : (strings font : List ℕ) (n row z x colour i at c bits : ℕ) (l : List ℕ) {l′ l″ : List ℕ} → 0 < z → at ≡ x + 8 * i * z
     → c ≡ character strings n i → bits ≡ glyphRow font c row

@@ -1,19 +1,19 @@
--- Laws of text: a row of pixels is drawn part by part, from the left; a row beside the text is left.
--- Assumes nothing.
+-- Laws of text: a row of pixels is drawn part by part from the left, or a run and then the others; a
+-- row beside the text is left. Assumes nothing.
 use mathlib.Core.Path.{_≡_, refl, sym, ap, _∙_}
 use mathlib.Core.Logic.{⊎-elim}
 use mathlib.Core.List.{List}
 use Prim.Native.Nat.{ℕ, zero, suc, _+_, _-_, _*_, _/_, _%_, _≤_, _<_}
-use native.Mathlib.Nat.{add-mul, div-lt-iff-lt-mul, le-div-iff-mul-le, add-mul-div-right}
+use native.Mathlib.Nat.{add-mul, mul-le-mul-right, div-lt-iff-lt-mul, le-div-iff-mul-le, add-mul-div-right}
 use native.Mathlib.Omega.{arith}
 use lib.ListN.{getD}
 use lib.Dec.{leb, ltb, eqb}
-use borrow.Author.Tests.{le-leb, lt-leb, lt-ltb, le-ltb, eq-eqb, ne-eqb}
+use borrow.Author.Tests.{le-leb, lt-leb, lt-ltb, le-ltb, eq-eqb}
 use Rattle.lists.specs.Choice.{both}
 use Rattle.lists.specs.Zero.{zeroFrom}
 use Rattle.lists.proofs.Choice.{split, both-none, pick-keeps}
 use Rattle.draw.specs.Text.{character, glyphRow, pixelOf, inked, rowAfter, stringPixel, stringAfter, textAfter}
-use Rattle.draw.specs.Rows.{runAfter, pixelAfter}
+use Rattle.draw.specs.Rows.{runAfter}
 use Rattle.draw.proofs.RunLaws.{run-in, run-left, run-right}
 
 -- ---- a row of pixels
@@ -66,28 +66,48 @@ row-more z pos x colour a b at p q e same u old =
     (split u at))
     (split u x)
 
--- ---- one pixel, z wide
+-- ---- a run of pixels, and then the others
 
-pub pixel-none : (pixel z x colour u old : ℕ) → pixel ≡ 0 → pixelAfter pixel z x colour u old ≡ old
-unfolding pixelAfter inked
-pixel-none pixel z x colour u old e = rw (eq-eqb pixel 0 e) (⊎-elim
-    (λ (l : u < x). run-left x (x + z) old u old l)
-    (λ (g : x ≤ u). ⊎-elim (λ (l : u < x + z). run-in x (x + z) old u old g l) (λ (r : x + z ≤ u). run-right x (x + z) old u old r) (split u (x + z)))
-    (split u x))
+inked-same : (pixel colour : ℕ) → inked pixel colour colour ≡ colour
+unfolding inked
+inked-same pixel colour = pick-keeps (λ (m : ℕ). m ≡ colour) (eqb pixel 0) colour colour (λ _. refl) (λ _. refl)
 
-pub pixel-run : (pixel z x colour u old : ℕ) → (pixel ≡ 0 → ⊥) → pixelAfter pixel z x colour u old ≡ runAfter x (x + z) colour u old
-unfolding pixelAfter inked
-pixel-run pixel z x colour u old e = rw (ne-eqb pixel 0 e)
+-- of a column: it is in the run, or beside it
+module _ (z : ℕ) (pos : 0 < z) (x colour a e u : ℕ) (from : x ≤ u) where
+  inked-run : (q old : ℕ)
+      → inked (runAfter a e 1 ((u - x) / z) q) colour old ≡ inked q colour (runAfter (x + a * z) (x + e * z) colour u old)
+  unfolding inked
+  inked-run q old = ⊎-elim
+      (λ (l : (u - x) / z < a).
+      let h : u - x < a * z = div-lt-iff-lt-mul {k = z} pos .0 l in
+      rw (run-left a e 1 _ q l, run-left (x + a * z) (x + e * z) colour u old (omega arith)) refl)
+      (λ (g : a ≤ (u - x) / z). ⊎-elim
+      (λ (l : (u - x) / z < e).
+      let h : a * z ≤ u - x = le-div-iff-mul-le {k = z} pos .0 g in
+      let i : u - x < e * z = div-lt-iff-lt-mul {k = z} pos .0 l in
+      rw (run-in a e 1 _ q g l, run-in (x + a * z) (x + e * z) colour u old (omega arith) (omega arith)) (sym (inked-same q colour)))
+      (λ (r : e ≤ (u - x) / z).
+      let h : e * z ≤ u - x = le-div-iff-mul-le {k = z} pos .0 r in
+      rw (run-right a e 1 _ q r, run-right (x + a * z) (x + e * z) colour u old (omega arith)) refl)
+      (split ((u - x) / z) e))
+      (split ((u - x) / z) a)
 
--- it is a row of one
-pub pixel-row : (z : ℕ) → 0 < z → (pixel x colour u old : ℕ) → pixelAfter pixel z x colour u old ≡ rowAfter (λ j. pixel) 1 z x colour u old
-unfolding pixelAfter
-pixel-row z pos pixel x colour u old = ⊎-elim
-    (λ (l : u < x). run-left x (x + z) _ u old l ∙ sym (row-left z pos x colour (λ j. pixel) 1 u old l))
+-- the pixels p are a run from a to e over the pixels q
+pub row-run : (z : ℕ) → 0 < z → (x colour n a e : ℕ) (p q : ℕ → ℕ) → e ≤ n → ((j : ℕ) → j < n → p j ≡ runAfter a e 1 j (q j)) → (u old : ℕ)
+    → rowAfter p n z x colour u old ≡ rowAfter q n z x colour u (runAfter (x + a * z) (x + e * z) colour u old)
+row-run z pos x colour n a e p q h same u old = ⊎-elim
+    (λ (l : u < x). row-left z pos x colour p n u old l
+    ∙ sym (row-left z pos x colour q n u _ l ∙ run-left (x + a * z) (x + e * z) colour u old (omega arith)))
     (λ (g : x ≤ u). ⊎-elim
-    (λ (l : u < x + z). run-in x (x + z) _ u old g l ∙ sym (row-in z pos x colour (λ j. pixel) 1 u old g (omega arith)))
-    (λ (r : x + z ≤ u). run-right x (x + z) _ u old r ∙ sym (row-right z pos x colour (λ j. pixel) 1 u old (omega arith)))
-    (split u (x + z)))
+    (λ (l : u < x + n * z).
+    let j : (u - x) / z < n = div-lt-iff-lt-mul {k = z} pos .1 (omega arith) in
+    row-in z pos x colour p n u old g l ∙ rw (same ((u - x) / z) j)
+    (inked-run z pos x colour a e u g (q ((u - x) / z)) old ∙ sym (row-in z pos x colour q n u _ g l)))
+    (λ (r : x + n * z ≤ u).
+    let m : e * z ≤ n * z = mul-le-mul-right z h in
+    row-right z pos x colour p n u old r
+    ∙ sym (row-right z pos x colour q n u _ r ∙ run-right (x + a * z) (x + e * z) colour u old (omega arith)))
+    (split u (x + n * z)))
     (split u x)
 
 -- ---- a string's pixels, a character at a time

@@ -6,7 +6,6 @@ ghost use Rattle.lists.specs.Tab.{each};
 ghost use Rattle.tables.specs.Geometry as geometry;
 ghost use Rattle.draw.specs.Text.{glyphRow, pixelOf, rowAfter, stringAfter, textOf};
 ghost use Rattle.draw.specs.Drawing.{Tables};
-ghost use Rattle.draw.specs.Rows.{pixelAfter};
 use crate::instruction::scale;
 use crate::runs::fill_run;
 use numbers::wide;
@@ -27,40 +26,19 @@ fn glyph_row(font: &[u8], c: u8, row: usize) -> u8
     font[8 * (n - 32) + row]
 }
 
-// A glyph's pixel, the top bit leftmost.
-fn pixel(bits: u8, column: usize) -> u8
-    requires { ⌜ column < 8 ⌝ }
-    ensures { λ r. ⌜ r ≡ pixelOf bits column ⌝ }
-{
-    let rest = bits >> (7 - column);
-    rest % 2
-}
-
-// One pixel of a glyph, z wide.
-fn draw_pixel(line: &mut [u8], pixel: u8, z: usize, x: usize, colour: u8)
-    requires { ⌜ (z ≤ 8) × (x < 8192) ⌝ }
-    ensures { λ _. ⌜ now (line .exit) ≡ each (pixelAfter pixel z x colour) (now (line .entry)) ⌝ }
-{
-    if pixel == 0 {
-        return;
-    }
-    fill_run(line, x, x + z, colour);
-}
-
-// A row of a glyph, pixel by pixel. Many have no bits: those of a space, those above and below letters.
+// A row of a glyph, run by run from the right. With the zeros below its lowest run filled, one more
+// carries the run into the place where it ends, as of 00110110 it makes 00111000.
 fn draw_cell(line: &mut [u8], bits: u8, z: usize, x: usize, colour: u8)
     requires { ⌜ (0 < z) × (z ≤ 8) × (x < 8000) ⌝ }
     ensures { λ _. ⌜ now (line .exit) ≡ each (rowAfter (pixelOf bits) 8 z x colour) (now (line .entry)) ⌝ }
 {
-    if bits == 0 {
-        return;
-    }
-    let mut column = 0;
-    let mut at = x;
-    while column < 8 {
-        draw_pixel(line, pixel(bits, column), z, at, colour);
-        at += z;
-        column += 1;
+    let mut rest = wide(bits);
+    while rest != 0 {
+        let carried = (rest | (rest - 1)) + 1;
+        let low = usize::trailing_zeros(rest) as usize;
+        let high = usize::trailing_zeros(carried) as usize;
+        fill_run(line, x + (8 - high) * z, x + (8 - low) * z, colour);
+        rest = rest & carried;
     }
 }
 

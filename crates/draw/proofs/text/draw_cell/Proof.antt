@@ -1,60 +1,96 @@
--- `text::draw_cell` meets its contract: a row without bits leaves the line; before each turn the columns
--- so far are drawn, and the next one begins where they end. The measure is the columns left.
+-- `text::draw_cell` meets its contract: before each turn the bits that are left, drawn over the line,
+-- give the whole. The measure is those bits as a number, which a run taken off makes smaller.
 -- Assumes nothing.
-use mathlib.Core.Path.{_≡_, ap, _∙_}
-use Prim.Native.Nat.{ℕ, _+_, _-_, _*_, _≤_}
-use native.Mathlib.Nat.{add-mul, one-mul}
+use mathlib.Core.Path.{_≡_, refl, sym, ap, _∙_}
+use Prim.Native.Nat.{ℕ, _-_, _*_, _≤_, _<_}
+use native.Mathlib.Nat.{mul-le-mul}
 use native.Mathlib.Omega.{arith}
+use lib.Count.{trailingZeros}
 use lib.ListN.{length}
 use borrow.Author.Needs.{needs}
 use Rattle.lists.specs.Tab.{each}
 use Rattle.lists.proofs.Tab.{length-each}
 use Rattle.draw.specs.Text.{pixelOf, rowAfter}
-use Rattle.draw.proofs.LineLaws.{row-line-none, cell-clear, cell-more}
+use Rattle.draw.proofs.BitLaws.{carried, runFrom, runTo, carried-le, beside-lt, zeros-le, zeros-carried-le}
+use Rattle.draw.proofs.LineLaws.{cell-done, cell-turn}
 use Rattle.draw.proofs.text.draw_cell.Statement.{statement}
 use Rattle.draw.proofs.text.draw_cell.Tie as tie
 
 abbrev Inv-loop : tie.InvT-loop
-Inv-loop line₀ bits z x colour column₀ at₀ line column at =
-    (column ≤ 8) × (at ≤ x + 8 * column) × (at ≡ x + column * z) × (line ≡ each (rowAfter (pixelOf bits) column z x colour) line₀)
+Inv-loop line₀ bits z x colour rest₀ line rest =
+    (rest < 256) × (each (rowAfter (pixelOf rest) 8 z x colour) line ≡ each (rowAfter (pixelOf bits) 8 z x colour) line₀)
 
 abbrev μ-loop : tie.MeasureT-loop
-μ-loop line₀ bits z x colour column₀ at₀ line column at = 8 - column
+μ-loop line₀ bits z x colour rest₀ line rest = rest
 
-returns : tie.Need-returns Inv-loop μ-loop
-returns c = search (cell-clear, needs)
+-- how far a place of a bit, a column in pixels can go
+low : (c : tie.In-loop Inv-loop μ-loop) → trailingZeros 64 (c .before .loop .rest) ≤ 8
+low c = search (zeros-le, needs)
+
+high : (c : tie.In-loop Inv-loop μ-loop) → trailingZeros 64 (carried (c .before .loop .rest)) ≤ 8
+high c = search (zeros-carried-le, needs)
+
+scaled-le : (n z : ℕ) → z ≤ 8 → (8 - n) * z ≤ 64
+scaled-le n z h = mul-le-mul {n₂ = 8} {m₂ = 8} (omega arith) h
+
+from : (c : tie.In-loop Inv-loop μ-loop) → runFrom (c .before .loop .rest) * c .before .before .before .before .args .z ≤ 64
+from c = scaled-le _ _ (omega arith)
+
+to : (c : tie.In-loop Inv-loop μ-loop) → runTo (c .before .loop .rest) * c .before .before .before .before .args .z ≤ 64
+to c = scaled-le _ _ (omega arith)
+
+wide-requires : tie.Need-wide-requires Inv-loop μ-loop
+wide-requires c κs = search needs
 
 loop-holds : tie.Need-loop-holds Inv-loop μ-loop
-loop-holds c = (omega arith, omega arith, omega arith, search (row-line-none, needs))
+loop-holds c = (omega arith, rw (c .wide .ensures .0) refl)
 
-pixel-requires : tie.Need-pixel-requires Inv-loop μ-loop
-pixel-requires c κs = search needs
+sub-carried : tie.Need-sub-carried Inv-loop μ-loop
+sub-carried c = search needs
 
-draw-pixel-requires : tie.Need-draw-pixel-requires Inv-loop μ-loop
-draw-pixel-requires c κs = search needs
+add-carried : tie.Need-add-carried Inv-loop μ-loop
+add-carried c = search (carried-le (c .before .loop .rest) (c .loop-test .taken) (c .before .loop .inv .0), needs)
 
-add-at : tie.Need-add-at Inv-loop μ-loop
-add-at c = search needs
+cast-low : tie.Need-cast-low Inv-loop μ-loop
+cast-low c = search (low c, needs)
 
-add-column : tie.Need-add-column Inv-loop μ-loop
-add-column c = search needs
+cast-high : tie.Need-cast-high Inv-loop μ-loop
+cast-high c = search (high c, needs)
+
+sub-fill-run : tie.Need-sub-fill-run Inv-loop μ-loop
+sub-fill-run c = high (c .before)
+
+mul-fill-run : tie.Need-mul-fill-run Inv-loop μ-loop
+mul-fill-run c = search (from (c .before), needs)
+
+add-fill-run : tie.Need-add-fill-run Inv-loop μ-loop
+add-fill-run c = search (from (c .before), needs)
+
+sub-fill-run-2 : tie.Need-sub-fill-run-2 Inv-loop μ-loop
+sub-fill-run-2 c = low (c .before)
+
+mul-fill-run-2 : tie.Need-mul-fill-run-2 Inv-loop μ-loop
+mul-fill-run-2 c = search (to (c .before), needs)
+
+add-fill-run-2 : tie.Need-add-fill-run-2 Inv-loop μ-loop
+add-fill-run-2 c = search (to (c .before), needs)
+
+fill-run-requires : tie.Need-fill-run-requires Inv-loop μ-loop
+fill-run-requires c κs = search needs
 
 loop-less : tie.Need-loop-less Inv-loop μ-loop
-loop-less c = search needs
-
-next-at : (z x n at : ℕ) → at ≡ x + n * z → at + z ≡ x + (n + 1) * z
-next-at z x n at e = omega (arith, add-mul n 1 z, one-mul z)
+loop-less c = search (beside-lt, needs)
 
 loop-again : tie.Need-loop-again Inv-loop μ-loop
-loop-again c = (omega arith, omega arith, search (next-at, needs), search (cell-more, needs))
+loop-again c =
+    let i = c .before .before .before .before in
+    (omega (arith, beside-lt (i .before .loop .rest) (i .loop-test .taken) (i .before .loop .inv .0)), search (cell-turn, needs))
 
 same-length : tie.Need-same-length Inv-loop μ-loop
-same-length c = ap length (c .before .loop .inv .3) ∙ length-each _ _
+same-length c = sym (length-each _ _) ∙ ap length (c .before .loop .inv .1) ∙ length-each _ _
 
-returns-2 : tie.Need-returns-2 Inv-loop μ-loop
-returns-2 c =
-    let l = c .before .loop in
-    let q : l .column ≡ 8 = omega arith in rw q at (l .inv .3)
+returns : tie.Need-returns Inv-loop μ-loop
+returns c = search (cell-done, needs)
 
 pub draw-cell-spec : {M : Type 1} → statement M
 draw-cell-spec =
@@ -62,13 +98,20 @@ draw-cell-spec =
     (tie.spec
     Inv-loop
     μ-loop
-    returns
+    wide-requires
     loop-holds
-    pixel-requires
-    draw-pixel-requires
-    add-at
-    add-column
+    sub-carried
+    add-carried
+    cast-low
+    cast-high
+    sub-fill-run
+    mul-fill-run
+    add-fill-run
+    sub-fill-run-2
+    mul-fill-run-2
+    add-fill-run-2
+    fill-run-requires
     loop-less
     loop-again
     same-length
-    returns-2)
+    returns)
