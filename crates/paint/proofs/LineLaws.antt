@@ -5,18 +5,19 @@ use mathlib.Core.Logic.{_⊎_, inl, inr, ⊎-elim}
 use mathlib.Core.List.{List, _++_}
 use Prim.Native.Nat.{ℕ, _+_, _-_, _*_, _/_, _%_, _≤_, _<_}
 use native.Mathlib.Nat.{mul-le-mul, mul-comm, add-mul}
+use native.Mathlib.Numerals.{add-one}
 use native.Mathlib.Omega.{arith}
 use borrow.Author.Tests.{leb-true, ltb-true, le-leb, lt-ltb}
 use lib.Dec.{eqb, leb}
-use lib.ListN.{length, getD, take, drop}
-use lib.Seq.{take-at, take-all}
+use lib.ListN.{length, getD, take, drop, take-append-drop, drop-of-length-le}
+use lib.Seq.{take-at, drop-cons}
 use Rattle.lists.specs.Choice.{pick}
 use Rattle.lists.specs.Tab.{each}
 use Rattle.lists.specs.Steps.{through}
 use Rattle.lists.proofs.Choice.{both-left, both-right, pick-cong}
 use Rattle.lists.proofs.Sum.{sum-room}
-use Rattle.lists.proofs.Tab.{each-part, each-id, each-cong, each-then, length-part, getD-part}
-use Rattle.lists.proofs.Steps.{through-none, through-id, through-next}
+use Rattle.lists.proofs.Tab.{each-part, each-id, each-cong-below, each-turn, each-then, length-part, getD-part}
+use Rattle.lists.proofs.Steps.{through-none, through-id, through-append, through-next}
 use Rattle.mix.specs.Blend.{blendOf}
 use Rattle.words.specs.declared.fields.Layer.{Layer}
 use Rattle.words.specs.Fields.{widthOf, layerOf}
@@ -27,7 +28,7 @@ use Rattle.paint.specs.Scene.{Scene}
 use Rattle.paint.specs.Pixel.{pictureAt, ownAt, fadedOf, alphaAt, spans, covers, overAt}
 use Rattle.paint.specs.Band.{bandBy}
 use Rattle.paint.specs.Plan.{bandLayers, leftOf, wideOf}
-use Rattle.paint.specs.Lines.{Painting, OnRow, Drawn, lineByte, lineTo, bandLine}
+use Rattle.paint.specs.Lines.{Painting, OnRow, Drawn, rowStart, lineByte, lineTo, lineFrom, bandLine}
 use Rattle.paint.proofs.BandLaws.{band-through}
 
 pub row-room : (v h w : ℕ) → v < h → v * w + w ≤ h * w
@@ -133,6 +134,14 @@ module _ (s : Scene) (y n left wide : ℕ) (src : List ℕ)
       (λ i p lt. byte-outside i p (omega arith) (inl lt))
       (λ i p ge lt. byte-outside i p (omega arith) (inr ge))
 
+  -- a layer that takes up the whole line
+  pub layer-whole : (line part : List ℕ) → length line ≡ 4 * widthOf (s .words) → 4 * wide ≡ length line
+      → part ≡ each (overByte src (layerOf (s .words) n .global) (fadedOf (s .frame) (layerOf (s .words) n))) line → part ≡ each (lineByte s y n) line
+  layer-whole line part long whole e =
+      e ∙ each-cong-below _ _ line (λ i h.
+      let q : 4 * left + i ≡ i = omega arith in
+      sym (byte-is i (getD line i 0) (omega arith)) ∙ ap (λ (j : ℕ). lineByte s y n j (getD line i 0)) q)
+
 -- ---- the same of a step
 
 -- a part of n elements from o on, as the borrow checker writes it
@@ -167,9 +176,19 @@ module _ (s : Scene) (y : ℕ) (line part src : List ℕ) (t : Step) (k : Painti
   step-lent own e =
       let q : 4 * t .left + 4 * t .wide - 4 * t .left ≡ 4 * t .wide = omega arith in rw q (step-over own (rw q at e))
 
+  -- over another line as long, of which it takes up the whole
+  pub step-whole : (under : List ℕ) → length under ≡ length line → 4 * t .wide ≡ length line
+      → ((u c : ℕ) → u < t .wide → c < 4 → getD src (4 * u + c) 0 ≡ ownAt s (t .number) u (y - t .layer .y) c)
+      → part ≡ each (overByte src (t .layer .global) (t .alpha)) under → part ≡ each (lineByte s y (t .number)) under
+  step-whole under same whole own e =
+      let m = k .made in
+      layer-whole s y (t .number) (t .left) (t .wide) src (m .left) (m .wide) (rw (m .layer) at (r .top)) (rw (m .layer) at (r .bottom))
+      (λ u c h hc. own u c h hc ∙ ap (λ (l : Layer). ownAt s (t .number) u (y - l .y) c) (m .layer))
+      under part (same ∙ k .long) (whole ∙ sym same) (rw (m .layer, m .alpha) at e)
+
   -- ---- a frame layer's run: part of its picture's row
 
-  pub picture-room : t .layer .graphics ≡ false → t .start + 4 * ((y - t .layer .y) * t .layer .width) + 4 * t .wide ≤ length (s .pictures)
+  pub picture-room : t .layer .graphics ≡ false → rowStart t y + 4 * t .wide ≤ length (s .pictures)
   unfolding pictureStart picturesLen pictureLenAt pictureLen
   picture-room g =
       let m = k .made in
@@ -183,23 +202,20 @@ module _ (s : Scene) (y : ℕ) (line part src : List ℕ) (t : Step) (k : Painti
       omega (arith, m .start, k .lent .pictures)
 
   pub picture-own : t .layer .graphics ≡ false → (u c : ℕ) → u < t .wide → c < 4
-      → getD (take (4 * t .wide) (drop (t .start + 4 * ((y - t .layer .y) * t .layer .width)) (s .pictures))) (4 * u + c) 0
-      ≡ ownAt s (t .number) u (y - t .layer .y) c
+      → getD (take (4 * t .wide) (drop (rowStart t y) (s .pictures))) (4 * u + c) 0 ≡ ownAt s (t .number) u (y - t .layer .y) c
   unfolding ownAt pictureAt
   picture-own g u c h hc =
       let m = k .made in
       let f : layerOf (s .words) (t .number) .graphics ≡ false = rw (m .layer) at g in
-      let q : t .start + 4 * ((y - t .layer .y) * t .layer .width) + (4 * u + c) ≡ t .start + (4 * ((y - t .layer .y) * t .layer .width + u) + c) = omega arith in
+      let q : rowStart t y + (4 * u + c) ≡ t .start + (4 * ((y - t .layer .y) * t .layer .width + u) + c) = omega arith in
       getD-part (s .pictures) _ (4 * t .wide) (4 * u + c) (omega arith)
       ∙ ap (λ (i : ℕ). getD (s .pictures) i 0) q ∙ rw (f, ← (m .layer), m .start)
 
-  -- as the borrow checker writes the part
-  pub picture-lent : t .layer .graphics ≡ false → (u c : ℕ) → u < t .wide → c < 4
-      → (let from = t .start + 4 * ((y - t .layer .y) * t .layer .width) in getD (take (from + 4 * t .wide - from) (drop from (s .pictures))) (4 * u + c) 0)
-      ≡ ownAt s (t .number) u (y - t .layer .y) c
-  picture-lent g u c h hc =
-      let q : t .start + 4 * ((y - t .layer .y) * t .layer .width) + 4 * t .wide - (t .start + 4 * ((y - t .layer .y) * t .layer .width)) ≡ 4 * t .wide = omega arith in
-      rw q (picture-own g u c h hc)
+  -- as the code has it, with the row's start in a variable, and as the borrow checker writes the part
+  pub picture-lent : (from : ℕ) → from ≡ rowStart t y → t .layer .graphics ≡ false → (u c : ℕ) → u < t .wide → c < 4
+      → getD (take (from + 4 * t .wide - from) (drop from (s .pictures))) (4 * u + c) 0 ≡ ownAt s (t .number) u (y - t .layer .y) c
+  picture-lent from e g u c h hc =
+      let q : rowStart t y + 4 * t .wide - rowStart t y ≡ 4 * t .wide = omega arith in rw (e, q) (picture-own g u c h hc)
 
   -- ---- a graphics layer's run: the row that was drawn, at the front of its room
 
@@ -246,8 +262,23 @@ module _ (s : Scene) (y : ℕ) where
       each-then (lineTo s y l k) (lineByte s y n) _ line₀ e f
       (λ i p. through-next (λ n q. lineByte s y n i q) l k p h ∙ ap (λ (m : ℕ). lineByte s y m i (lineTo s y l k i p)) (sym q))
 
-  pub line-all : (a b k : ℕ) (line line₀ : List ℕ) → a ≤ b → b ≤ 8 → length (bandLayers (s .words) a b) ≤ k
-      → line ≡ each (lineTo s y (bandLayers (s .words) a b) k) line₀ → line ≡ each (bandLine s a b y) line₀
-  unfolding lineTo
-  line-all a b k line line₀ ab b8 h e =
-      e ∙ each-cong _ _ line₀ (λ i p. rw (take-all k (bandLayers (s .words) a b) h) (line-band s a b y i p ab b8))
+  -- what is left of the layers, over the line, is the whole: one of them painted, and none left
+  pub line-left : (l line line′ : List ℕ) (k n : ℕ) {whole : List ℕ} → k < length l → n ≡ getD l k 0 → each (lineFrom s y l k) line ≡ whole → line′ ≡ each (lineByte s y n) line
+      → each (lineFrom s y l (k + 1)) line′ ≡ whole
+  unfolding lineFrom through
+  line-left l line line′ k n h q e f =
+      each-turn (lineFrom s y l (k + 1)) (lineByte s y n) (lineFrom s y l k) line f (λ i p. rw (drop-cons l k 0 h, q, add-one)) e
+
+  pub line-done : (l line : List ℕ) (k : ℕ) {whole : List ℕ} → length l ≤ k → each (lineFrom s y l k) line ≡ whole → line ≡ whole
+  unfolding lineFrom
+  line-done l line k h e = each-id _ line (λ i p. rw (drop-of-length-le l {i = k} h) (through-none _ p)) ∙ e
+
+  -- the first k and then the others
+  pub line-all : (a b k : ℕ) (line line′ line₀ : List ℕ) → a ≤ b → b ≤ 8 → line ≡ each (lineTo s y (bandLayers (s .words) a b) k) line₀
+      → line′ ≡ each (lineFrom s y (bandLayers (s .words) a b) k) line → line′ ≡ each (bandLine s a b y) line₀
+  unfolding lineTo lineFrom
+  line-all a b k line line′ line₀ ab b8 e f =
+      let l = bandLayers (s .words) a b in
+      each-then (lineTo s y l k) (lineFrom s y l k) _ line₀ e f
+      (λ i p. sym (line-band s a b y i p ab b8) ∙ ap (λ (m : List ℕ). through (λ n q. lineByte s y n i q) m p) (sym (take-append-drop k l))
+      ∙ through-append (λ n q. lineByte s y n i q) (take k l) (drop k l) p)

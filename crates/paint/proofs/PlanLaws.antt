@@ -19,7 +19,7 @@ use Rattle.paint.specs.declared.plan.Step.{Step}
 use Rattle.paint.specs.declared.plan.Plan.{Plan}
 use Rattle.paint.specs.Scene.{Scene}
 use Rattle.paint.specs.Band.{missing, markAt}
-use Rattle.paint.specs.Lines.{Lent, Painting}
+use Rattle.paint.specs.Lines.{Lent, Painting, First}
 use Rattle.paint.specs.Plan.{within, bandLayers, Made, blank, Planned, Grown, Empty, Numbered, marked, markedTo}
 
 abbrev plan : List Step → ℕ → Plan
@@ -102,6 +102,11 @@ planned-painting s line a b j p lent long q h =
     let e = m .number in
     let on = bandLayers-enabled (s .words) a b j lt in
     record { lent = lent; long = long; number = rw e (on .0); on = rw e (on .1); made = rw e m }
+
+pub planned-first : (s : Scene) (line : List ℕ) (a b : ℕ) (p : Plan) → Lent s → length line ≡ 4 * widthOf (s .words)
+    → Planned (s .words) (s .frame) (s .tables) (bandLayers (s .words) a b) p → 0 < p .count → First s line (bandLayers (s .words) a b) (getD (p .steps) 0 blank)
+planned-first s line a b p lent long q h =
+    record { some = omega (arith, q .count); number = planned-number _ _ _ _ p 0 q h; painting = planned-painting s line a b 0 p lent long q h }
 
 -- ---- the marks
 

@@ -1,27 +1,24 @@
 -- From lines to the whole output: byte i stands on line i / S, S = 4 W bytes a line. Assumes nothing.
-use mathlib.Core.Path.{_≡_, refl, sym, ap, _∙_}
-use mathlib.Core.Bool.{Bool, true, false}
+use mathlib.Core.Path.{_≡_, _∙_}
+use mathlib.Core.Bool.{Bool}
 use mathlib.Core.Logic.{⊎-elim}
-use mathlib.Core.List.{List, [], _∷_, _++_}
-use Prim.Native.Nat.{ℕ, zero, suc, _+_, _-_, _*_, _/_, _%_, _≤_, _<_}
+use mathlib.Core.List.{List, _++_}
+use Prim.Native.Nat.{ℕ, _+_, _-_, _*_, _/_, _%_, _≤_, _<_}
 use native.Mathlib.Nat.{mul-le-mul, mul-comm, mul-assoc, add-mul, one-mul, div-lt-iff-lt-mul, le-div-iff-mul-le}
 use native.Mathlib.Omega.{arith}
 use borrow.Author.Tests.{eq-eqb, ne-eqb, lt-ltb, le-ltb}
 use lib.Arith.{digits-div, digits-mod}
 use lib.Dec.{eqb}
 use lib.ListN.{length, take, drop}
-use Rattle.lists.specs.Choice.{pick, pickList}
-use Rattle.lists.specs.Tab.{tab, each}
-use Rattle.lists.proofs.Choice.{split, same-or, pick-cong}
-use Rattle.lists.proofs.Tab.{each-id, each-cong, each-each, each-cong-below, each-then, each-part}
-use Rattle.words.specs.declared.fields.Ground.{Ground}
-use Rattle.words.specs.Fields.{widthOf, heightOf, groundsOf}
-use Rattle.span.specs.Span as span
+use Rattle.lists.specs.Choice.{pick}
+use Rattle.lists.specs.Tab.{each}
+use Rattle.lists.proofs.Choice.{split, same-or}
+use Rattle.lists.proofs.Tab.{each-id, each-cong-below, each-then, each-part}
+use Rattle.words.specs.Fields.{widthOf, heightOf}
 use Rattle.paint.specs.Scene.{Scene}
 use Rattle.paint.specs.Band.{bandByte}
-use Rattle.paint.specs.Frame.{frameLen, fillByte, fillOf}
-use Rattle.paint.specs.Lines.{bandLine, groundByte, laidByte, laidLine, rowsByte}
-use Rattle.paint.proofs.FrameLaws.{fill-byte}
+use Rattle.paint.specs.Frame.{frameLen, fillByte}
+use Rattle.paint.specs.Lines.{bandLine, laidByte, laidLine, rowsByte}
 
 -- a line of S bytes ends where the next begins
 pub line-room : (y h S : ℕ) → y < h → y * S + S ≤ h * S
@@ -107,45 +104,3 @@ module _ (s : Scene) (a b : ℕ) (fresh : Bool) (wide : 0 < widthOf (s .words)) 
 
 pub rows-room : (S y h W H n : ℕ) → S ≡ 4 * W → y < h → h ≡ H → n ≡ 4 * (W * H) → y * S + S ≤ n
 rows-room S y h W H n q lt e f = rw q (omega (arith, line-room y H (4 * W) (omega arith), frame-lines W H))
-
--- ---- the ground
-
-pub ground-kept : (g : Ground) (out : List ℕ) → out ≡ each (groundByte g false) out
-unfolding groundByte
-ground-kept g out = each-id _ out (λ i p. refl)
-
-tab-each : (f : ℕ → ℕ) (l : List ℕ) → tab (length l) f ≡ each (λ i p. f i) l
-unfolding tab each
-tab-each f [] = refl
-tab-each f (p ∷ l) = ap (λ (y : List ℕ). f zero ∷ y) (tab-each (λ i. f (suc i)) l)
-
-pub ground-filled : (g : Ground) (out : List ℕ) → tab (length out) (span.fillByte (g .c0) (g .c1) (g .c2)) ≡ each (groundByte g true) out
-unfolding groundByte
-ground-filled g out = tab-each _ out
-
--- by the words' background
-ground-byte : (w : List ℕ) (fresh : Bool) (i p : ℕ) → groundByte (groundsOf w) fresh i p ≡ pick fresh (fillByte w i) p
-unfolding groundByte
-ground-byte w fresh i p = pick-cong fresh (λ t. fill-byte w i) (λ t. refl)
-
--- of a line, with the band over it
-pub ground-line : (s : Scene) (a b : ℕ) (fresh : Bool) (y : ℕ) (g : Ground) (line laid line′ : List ℕ) → g ≡ groundsOf (s .words)
-    → laid ≡ each (groundByte g fresh) line → line′ ≡ each (bandLine s a b y) laid → line′ ≡ each (laidLine s a b fresh y) line
-unfolding laidLine
-ground-line s a b fresh y g line laid line′ q e f =
-    each-then (groundByte (groundsOf (s .words)) fresh) (bandLine s a b y) _ line (rw q at e) f
-    (λ i p. ap (bandLine s a b y i) (sym (ground-byte (s .words) fresh i p)))
-
--- of the whole output, and with the band over it
-pub ground-all : (w : List ℕ) (fresh : Bool) (out : List ℕ) → length out ≡ frameLen w → each (groundByte (groundsOf w) fresh) out ≡ pickList fresh (fillOf w) out
-unfolding fillOf
-ground-all w true out e =
-    each-cong _ _ out (λ i p. ground-byte w true i p) ∙ sym (tab-each (fillByte w) out) ∙ ap (λ (n : ℕ). tab n (fillByte w)) e
-ground-all w false out e = sym (ground-kept (groundsOf w) out)
-
-pub laid-band : (s : Scene) (a b : ℕ) (fresh : Bool) (out : List ℕ) → length out ≡ frameLen (s .words)
-    → each (laidByte s a b fresh) out ≡ each (bandByte s a b) (pickList fresh (fillOf (s .words)) out)
-unfolding laidByte
-laid-band s a b fresh out e =
-    sym (ap (each (bandByte s a b)) (sym (ground-all (s .words) fresh out e)) ∙ each-each (groundByte (groundsOf (s .words)) fresh) (bandByte s a b) out
-    ∙ each-cong _ _ out (λ i p. ap (bandByte s a b i) (ground-byte (s .words) fresh i p)))

@@ -1,12 +1,12 @@
--- What the workers of `src/line.rt` and `src/rows.rt` ask and do, on the way to `specs/Band.antt`. No
--- definition of the document rests on these. Assumes nothing.
-use Prim.Native.Nat.{ℕ, _+_, _*_, _/_, _%_, _<_, _≤_}
+-- What the workers of `src/line.rt`, `src/ground.rt` and `src/rows.rt` ask and do, on the way to
+-- `specs/Band.antt`. No definition of the document rests on these. Assumes nothing.
+use Prim.Native.Nat.{ℕ, _+_, _-_, _*_, _/_, _%_, _<_, _≤_}
 use mathlib.Core.Path.{_≡_}
-use mathlib.Core.Bool.{Bool, true}
+use mathlib.Core.Bool.{Bool, true, not}
 use mathlib.Core.List.{List}
-use lib.ListN.{length, getD, take}
+use lib.ListN.{length, getD, take, drop}
 use lib.Dec.{eqb, ltb}
-use Rattle.lists.specs.Choice.{pick}
+use Rattle.lists.specs.Choice.{pick, both}
 use Rattle.lists.specs.Steps.{through}
 use Rattle.words.specs.declared.fields.Ground.{Ground}
 use Rattle.words.specs.Fields.{widthOf, layerOf}
@@ -15,7 +15,7 @@ use Rattle.tables.specs.Geometry.{tablesLen}
 use Rattle.span.specs.Span as span
 use Rattle.paint.specs.declared.plan.Step.{Step}
 use Rattle.paint.specs.Scene.{Scene}
-use Rattle.paint.specs.Pixel.{graphicsAt, overAt}
+use Rattle.paint.specs.Pixel.{graphicsAt, spans, overAt}
 use Rattle.paint.specs.Band.{pixelAt, bandByte}
 use Rattle.paint.specs.Frame.{fillByte}
 use Rattle.paint.specs.Plan.{Made}
@@ -33,10 +33,24 @@ pub record Painting (s : Scene) (line : List ℕ) (t : Step) : Type 0 where
   pub on : layerOf (s .words) (t .number) .on ≡ true
   pub made : Made (s .words) (s .frame) (s .tables) (t .number) t
 
+-- the step of the first of the layers l, and a line to paint it on
+pub record First (s : Scene) (line l : List ℕ) (t : Step) : Type 0 where
+  pub some : 0 < length l
+  pub number : t .number ≡ getD l 0 0
+  pub painting : Painting s line t
+
 -- the layer reaches line y
 pub record OnRow (t : Step) (y : ℕ) : Type 0 where
   pub top : t .layer .y ≤ y
   pub bottom : y < t .layer .y + t .layer .height
+
+-- where line y of a frame layer begins among the pictures
+abbrev pub rowStart : Step → ℕ → ℕ
+rowStart t y = t .start + 4 * ((y - t .layer .y) * t .layer .width)
+
+-- the layer is a picture that takes up the whole of line y, which has so many pixels
+unfoldable pub wholeLine : Step → ℕ → ℕ → Bool
+wholeLine t pixels y = both (not (t .layer .graphics)) (both (eqb (t .wide) pixels) (spans (t .layer .y) (t .layer .height) y))
 
 -- room for the longest line
 pub record Scratch (indexes row : List ℕ) : Type 0 where
@@ -56,9 +70,12 @@ pub record Drawn (w tables : List ℕ) (n v pixels : ℕ) (row : List ℕ) : Typ
 unfoldable pub lineByte : Scene → ℕ → ℕ → ℕ → ℕ → ℕ
 lineByte s y n i p = pick (eqb (i % 4) 3) p (overAt s (i / 4) y (i % 4) n p)
 
--- and with the first k of the layers l
+-- and with the first k of the layers l, or with the others
 unfoldable pub lineTo : Scene → ℕ → List ℕ → ℕ → ℕ → ℕ → ℕ
 lineTo s y l k i p = through (λ n q. lineByte s y n i q) (take k l) p
+
+unfoldable pub lineFrom : Scene → ℕ → List ℕ → ℕ → ℕ → ℕ → ℕ
+lineFrom s y l k i p = through (λ n q. lineByte s y n i q) (drop k l) p
 
 unfoldable pub bandLine : Scene → ℕ → ℕ → ℕ → ℕ → ℕ → ℕ
 bandLine s a b y i p = pick (eqb (i % 4) 3) p (pixelAt s (i / 4) y (i % 4) a b p)

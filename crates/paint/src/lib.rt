@@ -9,16 +9,17 @@ ghost use Rattle.paint.specs.Scene.{sceneOf};
 ghost use Rattle.paint.specs.Band.{bandOf, errorsOf};
 ghost use Rattle.paint.specs.Frame.{frameLen, fillOf, fillRefusal, fillAfter, paintTold, paintAfter, frameTold, frameAfter};
 ghost use Rattle.paint.specs.Lines.{Lent};
+use crate::ground::lay_ground;
 use crate::plan::marks_of;
 use crate::plan::plan_of;
 use crate::refusal::fill_refusal;
 use crate::refusal::paint_refusal;
-use crate::rows::lay_ground;
 use crate::rows::paint_rows;
 use answers::DONE;
 use words::fields::ground_of;
 use words::fields::is_shown;
 
+mod ground;
 mod line;
 mod plan;
 mod refusal;

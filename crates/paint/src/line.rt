@@ -8,7 +8,7 @@ ghost use Rattle.span.specs.Span.{overByte};
 ghost use Rattle.words.specs.Fields.{widthOf};
 ghost use Rattle.paint.specs.Scene.{sceneOf};
 ghost use Rattle.paint.specs.Plan.{Planned, bandLayers};
-ghost use Rattle.paint.specs.Lines.{Lent, Painting, OnRow, DrawReady, Scratch, Drawn, lineByte, bandLine};
+ghost use Rattle.paint.specs.Lines.{Lent, Painting, OnRow, DrawReady, Scratch, Drawn, rowStart, lineByte, lineFrom};
 use crate::plan::Plan;
 use crate::plan::Step;
 use draw::draw_line;
@@ -28,6 +28,15 @@ fn over(out: &mut [u8], run: &[u8], global: bool, alpha: u8)
     span::blend(out, run);
 }
 
+// Where line y of a frame layer begins among the pictures.
+pub fn row_start(pictures: &[u8], step: Step, y: usize) -> usize
+    requires { ⌜ OnRow step y × (rowStart step y ≤ length (now pictures)) ⌝ }
+    ensures { λ r. ⌜ r ≡ rowStart step y ⌝ }
+{
+    let v = y - (step.layer.y as usize);
+    step.start + 4 * (v * (step.layer.width as usize))
+}
+
 // Line y of a frame layer, over the line.
 fn picture_line(
     line: &mut [u8],
@@ -41,10 +50,9 @@ fn picture_line(
     requires { ⌜ Painting (sceneOf (now w) frame (now tables) (now pictures)) (now line) step × OnRow step y × (step .layer .graphics ≡ false) ⌝ }
     ensures { λ _. ⌜ now (line .exit) ≡ each (lineByte (sceneOf (now (w .entry)) frame (now (tables .entry)) (now (pictures .entry))) y (step .number)) (now (line .entry)) ⌝ }
 {
-    let v = y - (step.layer.y as usize);
     let left = 4 * step.left;
     let wide = 4 * step.wide;
-    let from = step.start + 4 * (v * (step.layer.width as usize));
+    let from = row_start(pictures, step, y);
     over(
         &mut line[left..left + wide],
         &pictures[from..from + wide],
@@ -146,7 +154,7 @@ fn layer_line(
     picture_line(line, w, frame, tables, pictures, step, y);
 }
 
-// The layers of a band over the line y, in the order of painting.
+// The layers of a band over the line y, in the order of painting, but not the first `laid` of them.
 pub fn paint_line(
     line: &mut [u8],
     indexes: &mut [u8],
@@ -158,13 +166,14 @@ pub fn paint_line(
     low: u32,
     high: u32,
     plan: Plan,
+    laid: usize,
     y: usize,
 )
     requires { ⌜ Lent (sceneOf (now w) frame (now tables) (now pictures)) × Planned (now w) frame (now tables) (bandLayers (now w) low high) plan ⌝ }
-    requires { ⌜ (length (now line) ≡ 4 * widthOf (now w)) × (low ≤ high) × (high ≤ 8) × Scratch (now indexes) (now row) ⌝ }
-    ensures { λ _. ⌜ now (line .exit) ≡ each (bandLine (sceneOf (now (w .entry)) frame (now (tables .entry)) (now (pictures .entry))) low high y) (now (line .entry)) ⌝ }
+    requires { ⌜ (length (now line) ≡ 4 * widthOf (now w)) × Scratch (now indexes) (now row) ⌝ }
+    ensures { λ _. ⌜ now (line .exit) ≡ each (lineFrom (sceneOf (now (w .entry)) frame (now (tables .entry)) (now (pictures .entry))) y (bandLayers (now (w .entry)) low high) laid) (now (line .entry)) ⌝ }
 {
-    let mut i: usize = 0;
+    let mut i = laid;
     while i < plan.count {
         let step = plan.steps[i];
         layer_line(line, indexes, row, w, frame, tables, pictures, step, y);

@@ -1,13 +1,14 @@
 // The lines of a frame, from the first to the last.
 ghost use mathlib.Core.Path.{_≡_};
-ghost use Prim.Native.Nat.{_*_, _%_, _≤_, _<_};
+ghost use Prim.Native.Nat.{_*_, _≤_, _<_};
 ghost use lib.ListN.{length};
 ghost use Rattle.lists.specs.Tab.{each};
 ghost use Rattle.words.specs.Fields.{widthOf, groundsOf};
 ghost use Rattle.paint.specs.Scene.{sceneOf};
 ghost use Rattle.paint.specs.Plan.{Planned, bandLayers};
 ghost use Rattle.paint.specs.Frame.{frameLen};
-ghost use Rattle.paint.specs.Lines.{Lent, Scratch, groundByte, laidByte, laidLine};
+ghost use Rattle.paint.specs.Lines.{Lent, Scratch, laidByte, laidLine};
+use crate::ground::lay_first;
 use crate::line::paint_line;
 use crate::plan::Plan;
 use words::fields::Ground;
@@ -26,17 +27,6 @@ fn pixel_room() -> [u8; 16384]
     ensures { λ r. ⌜ length r ≡ 16384 ⌝ }
 {
     [0u8; 16384]
-}
-
-// The ground of a run: the background where the frame is a fresh one, else what is there.
-pub fn lay_ground(out: &mut [u8], fresh: bool, ground: Ground)
-    requires { ⌜ length (now out) % 4 ≡ 0 ⌝ }
-    ensures { λ _. ⌜ now (out .exit) ≡ each (groundByte ground fresh) (now (out .entry)) ⌝ }
-{
-    if !fresh {
-        return;
-    }
-    span::fill(out, ground.c0, ground.c1, ground.c2);
 }
 
 // Line y: its ground, and the layers of a band over it.
@@ -59,7 +49,20 @@ fn lay_line(
     requires { ⌜ (length (now line) ≡ 4 * widthOf (now w)) × (low ≤ high) × (high ≤ 8) × Scratch (now indexes) (now row) × (ground ≡ groundsOf (now w)) ⌝ }
     ensures { λ _. ⌜ now (line .exit) ≡ each (laidLine (sceneOf (now (w .entry)) frame (now (tables .entry)) (now (pictures .entry))) low high fresh y) (now (line .entry)) ⌝ }
 {
-    lay_ground(line, fresh, ground);
+    let laid = lay_first(
+        line,
+        w,
+        frame,
+        tables,
+        pictures,
+        low,
+        high,
+        fresh,
+        ground,
+        plan.steps[0],
+        plan.count,
+        y,
+    );
     paint_line(
         line,
         indexes,
@@ -71,6 +74,7 @@ fn lay_line(
         low,
         high,
         plan,
+        laid,
         y,
     );
 }

@@ -10,7 +10,7 @@ use Rattle.lists.proofs.Tab.{length-each}
 use Rattle.paint.specs.Band.{errorsOf, bandOf}
 use Rattle.paint.proofs.PlanLaws.{planned-numbered}
 use Rattle.paint.proofs.FrameLaws.{off-band, marks-done}
-use Rattle.paint.proofs.RowsLaws.{ground-all, laid-band}
+use Rattle.paint.proofs.GroundLaws.{ground-all, laid-band}
 use Rattle.paint.proofs.paint_band.Statement.{statement}
 use Rattle.paint.proofs.paint_band.Tie as tie
 

@@ -1,10 +1,10 @@
--- `paint::rows::lay_ground` meets its contract: a run is kept, or filled. Assumes nothing.
+-- `paint::ground::lay_ground` meets its contract: a run is kept, or filled. Assumes nothing.
 use borrow.Author.Needs.{needs}
 use borrow.Author.Tests.{not-true, not-false}
 use mathlib.Core.Path.{_∙_}
-use Rattle.paint.proofs.RowsLaws.{ground-kept, ground-filled}
-use Rattle.paint.proofs.rows.lay_ground.Statement.{statement}
-use Rattle.paint.proofs.rows.lay_ground.Tie as tie
+use Rattle.paint.proofs.GroundLaws.{ground-kept, ground-filled}
+use Rattle.paint.proofs.ground.lay_ground.Statement.{statement}
+use Rattle.paint.proofs.ground.lay_ground.Tie as tie
 
 returns : tie.Need-returns
 returns c = rw (not-true (c .before .before .args .fresh) (c .if1 .taken)) (ground-kept _ _)
