@@ -12,7 +12,7 @@ use lib.ListN.{length, getD}
 use borrow.Author.Tests.{ne-eqb}
 use Rattle.lists.specs.Tab.{tab, each}
 use Rattle.lists.specs.Zero.{zeroFrom}
-use Rattle.lists.proofs.Zero.{zero-stops, zero-ends}
+use Rattle.lists.proofs.Zero.{zero-stops, zero-ends, zeroFrom-ge}
 use Rattle.lists.proofs.Tab.{is-tab, is-each, tab-cong, length-tab, getD-tab, length-each, getD-each, each-cong, each-id, each-turn, each-then}
 use Rattle.lists.specs.Little.{littleAt}
 use Rattle.draw.specs.Instruction.{scaleOf, opcode}
@@ -23,7 +23,7 @@ use Rattle.draw.specs.Rows.{runAfter, wholeOf}
 use Rattle.draw.proofs.RunLaws.{run-in}
 use Rattle.draw.proofs.BoxLaws.{box-past, box-above, box-below, box-whole, box-sides, whole-across}
 use Rattle.draw.proofs.BitLaws.{beside, runFrom, runTo, pixelOf-run}
-use Rattle.draw.proofs.TextLaws.{row-left, row-none, row-clear, row-more, row-run, stringPixel-at, zeroFrom-ge, text-above, text-below, text-number, text-row}
+use Rattle.draw.proofs.TextLaws.{row-left, row-none, row-clear, row-more, row-run, stringPixel-at, text-above, text-below, text-number, text-row}
 
 -- ---- a box
 

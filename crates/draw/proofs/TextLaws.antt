@@ -3,14 +3,13 @@
 use mathlib.Core.Path.{_≡_, refl, sym, ap, _∙_}
 use mathlib.Core.Logic.{⊎-elim}
 use mathlib.Core.List.{List}
-use Prim.Native.Nat.{ℕ, zero, suc, _+_, _-_, _*_, _/_, _%_, _≤_, _<_}
+use Prim.Native.Nat.{ℕ, _+_, _-_, _*_, _/_, _%_, _≤_, _<_}
 use native.Mathlib.Nat.{add-mul, mul-le-mul-right, div-lt-iff-lt-mul, le-div-iff-mul-le, add-mul-div-right}
 use native.Mathlib.Omega.{arith}
 use lib.ListN.{getD}
 use lib.Dec.{leb, ltb, eqb}
 use borrow.Author.Tests.{le-leb, lt-leb, lt-ltb, le-ltb, eq-eqb}
 use Rattle.lists.specs.Choice.{both}
-use Rattle.lists.specs.Zero.{zeroFrom}
 use Rattle.lists.proofs.Choice.{split, both-none, pick-keeps}
 use Rattle.draw.specs.Text.{character, glyphRow, pixelOf, inked, rowAfter, stringPixel, stringAfter, textAfter}
 use Rattle.draw.specs.Rows.{runAfter}
@@ -117,13 +116,6 @@ pub stringPixel-at : (strings font : List ℕ) (n row i j : ℕ) → j < 8
 unfolding stringPixel
 stringPixel-at strings font n row i j h =
     let a : (8 * i + j) / 8 ≡ i = omega arith in let b : (8 * i + j) % 8 ≡ j = omega arith in rw (a, b)
-
--- no fewer characters are shown than were passed
-pub zeroFrom-ge : (n : ℕ) (f : ℕ → ℕ) (k : ℕ) → k ≤ zeroFrom n f k
-unfolding zeroFrom
-zeroFrom-ge zero f k = omega arith
-zeroFrom-ge (suc n) f k =
-    pick-keeps (λ (m : ℕ). k ≤ m) (eqb (f k) 0) k (zeroFrom n f (k + 1)) (λ _. omega arith) (λ _. omega (arith, zeroFrom-ge n f (k + 1)))
 
 -- ---- the rows of a text
 

@@ -1,18 +1,13 @@
 -- What the workers of `src/` do to a row, on the way to `specs/Box.antt` and `specs/Text.antt`; no
 -- definition of the document rests on these. Assumes nothing.
-use Prim.Native.Nat.{ℕ, _+_, _*_}
+use Prim.Native.Nat.{ℕ, _*_}
 use mathlib.Core.Bool.{Bool}
 use lib.Dec.{leb, ltb, eqb}
 use Rattle.lists.specs.Choice.{pick, both, either}
-use Rattle.draw.specs.Text.{inked}
 
 -- the colour from a up to e
 unfoldable pub runAfter : ℕ → ℕ → ℕ → ℕ → ℕ → ℕ
 runAfter a e colour u old = pick (both (leb a u) (ltb u e)) colour old
-
--- one pixel of a glyph, z wide
-unfoldable pub pixelAfter : ℕ → ℕ → ℕ → ℕ → ℕ → ℕ → ℕ
-pixelAfter pixel z x colour u old = runAfter x (x + z) (inked pixel colour old) u old
 
 -- whether a row of a box is one run: its weight is 0, or it is near the upper or the lower side, or
 -- the sides' outlines meet

@@ -22,10 +22,16 @@ pub zero-ends : (n : ℕ) (f : ℕ → ℕ) (k : ℕ) → n ≤ k → zeroFrom (
 unfolding zeroFrom
 zero-ends n f k h = let q : n - k ≡ 0 = omega arith in rw q refl
 
--- ---- its bound
+-- ---- its bounds
 
 pub zeroFrom-le : (n : ℕ) (f : ℕ → ℕ) (k : ℕ) → zeroFrom n f k ≤ k + n
 unfolding zeroFrom
 zeroFrom-le zero f k = omega arith
 zeroFrom-le (suc n) f k =
     pick-keeps (λ (m : ℕ). m ≤ k + suc n) (eqb (f k) 0) k (zeroFrom n f (k + 1)) (λ _. omega arith) (λ _. omega (arith, zeroFrom-le n f (k + 1)))
+
+pub zeroFrom-ge : (n : ℕ) (f : ℕ → ℕ) (k : ℕ) → k ≤ zeroFrom n f k
+unfolding zeroFrom
+zeroFrom-ge zero f k = omega arith
+zeroFrom-ge (suc n) f k =
+    pick-keeps (λ (m : ℕ). k ≤ m) (eqb (f k) 0) k (zeroFrom n f (k + 1)) (λ _. omega arith) (λ _. omega (arith, zeroFrom-ge n f (k + 1)))
