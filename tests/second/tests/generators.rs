@@ -2,8 +2,8 @@
 //! counts.
 
 use second::answers::*;
-use second::cases::{gate_script, gen_calls, gen_host, gen_sheet};
-use second::host::host_frame;
+use second::cases::{gate_script, gen_calls, gen_host, gen_sheet, HostCase};
+use second::host::{host_frame, image_words};
 use second::script::*;
 use second::sheet::print_sheet;
 use second::tables::TABLES_LEN;
@@ -66,6 +66,61 @@ fn host_cases_reach_every_answer() {
         WRONG_IMAGE,
     ]);
     assert_eq!(counts.into_keys().collect::<BTreeSet<u32>>(), reachable);
+}
+
+/// How the blocks of sixteen pixels of a case's pictures come: in the lowest layer over whole lines,
+/// which lie on the background, and in the others; at one alpha, or clear, opaque or mixed.
+fn block_kinds(case: &HostCase) -> BTreeSet<String> {
+    let words = image_words(&case.image).expect("only painted cases are asked");
+    let mut layers: Vec<usize> = (0..LAYERS).filter(|&n| words.layer(n).enabled).collect();
+    layers.sort_by_key(|&n| words.layer(n).depth);
+    let mut kinds = BTreeSet::new();
+    for (i, &n) in layers.iter().enumerate() {
+        let layer = words.layer(n);
+        if layer.graphics {
+            continue;
+        }
+        let start = words.picture_start(n) as usize;
+        let row = 4 * layer.width as usize;
+        let place = if i == 0 && layer.width == words.width() { "lowest" } else { "other" };
+        for line in case.pictures[start..start + layer.picture_len() as usize].chunks(row) {
+            kinds.extend(line.chunks_exact(64).map(|block| {
+                let all = |alpha| block.chunks(4).all(|pixel| pixel[3] == alpha);
+                let look = match layer.global_alpha {
+                    true => "at one alpha",
+                    false if all(0) => "clear",
+                    false if all(255) => "opaque",
+                    false => "mixed",
+                };
+                format!("{place}, {look}")
+            }));
+        }
+    }
+    kinds
+}
+
+#[test]
+fn host_cases_reach_every_kind_of_block() {
+    let mut counts = BTreeMap::new();
+    for case in (0..1_000).map(gen_host) {
+        let painted = host_frame(
+            &case.image,
+            case.frame,
+            &case.tables,
+            &case.pictures,
+            &mut case.output.clone(),
+        );
+        if painted == DONE {
+            block_kinds(&case).into_iter().for_each(|kind| *counts.entry(kind).or_insert(0) += 1);
+        }
+    }
+    show("host calls by kind of block", &counts);
+    for place in ["lowest", "other"] {
+        for look in ["at one alpha", "clear", "opaque", "mixed"] {
+            let kind = format!("{place}, {look}");
+            assert!(counts.get(&kind) > Some(&5), "{kind} came too seldom");
+        }
+    }
 }
 
 /// What a record of a script does, by names.

@@ -3,7 +3,7 @@
 
 use crate::answers::*;
 use crate::cases::banks;
-use crate::cases::scene::{scene, spoil, Room};
+use crate::cases::scene::{pictures, scene, spoil, Room};
 use crate::host::IMAGE_LEN;
 use crate::rng::Rng;
 use crate::tables::{Bank, Kind, TABLES_LEN};
@@ -58,7 +58,7 @@ pub fn gen_host(seed: u64) -> HostCase {
         image,
         frame,
         tables: resized(tables, tables_len),
-        pictures: rng.bytes(pictures_len),
+        pictures: pictures(rng, pictures_len),
         output: rng.bytes(output_len),
     }
 }

@@ -82,6 +82,21 @@ fn span(rng: &mut Rng, size: i64) -> (i64, i64) {
     }
 }
 
+/// Picture bytes of any length. Runs of clear and of opaque pixels come often, some longer than a
+/// block that is painted at once.
+pub fn pictures(rng: &mut Rng, length: usize) -> Vec<u8> {
+    let mut bytes = rng.bytes(length);
+    let mut pixels = bytes.chunks_exact_mut(4);
+    while pixels.len() > 0 {
+        let run = rng.pick(&[1, 5, 15, 16, 17, 31, 50, 64]);
+        let alpha = rng.pick(&[None, Some(0x00), Some(0xFF)]);
+        for pixel in pixels.by_ref().take(run) {
+            pixel[3] = alpha.unwrap_or(pixel[3]);
+        }
+    }
+    bytes
+}
+
 fn alpha_word(rng: &mut Rng) -> u32 {
     let global = rng.percent(45);
     let value = if rng.percent(10) { 0 } else { rng.byte() };

@@ -3,7 +3,7 @@
 //! or badly formed.
 
 use crate::answers::*;
-use crate::cases::scene::{controller, nudge, scene, spoil, Room};
+use crate::cases::scene::{controller, nudge, pictures, scene, spoil, Room};
 use crate::cases::{banks, form};
 use crate::rng::Rng;
 use crate::sheet::{Line, Load, Sheet, Write, MOST_DIGITS, MOST_OUTPUT};
@@ -230,7 +230,7 @@ impl Author {
         } else {
             right
         };
-        line.pictures = self.rng.bytes(length as usize);
+        line.pictures = pictures(&mut self.rng, length as usize);
     }
 
     /// Adds loads of idle banks until the line stands for that many bytes, where it stands for
