@@ -63,6 +63,10 @@ fn lay_line(
         plan.count,
         y,
     );
+    // A plan is copied for a call; where no layer is left there is none.
+    if plan.count <= laid {
+        return;
+    }
     paint_line(
         line,
         indexes,

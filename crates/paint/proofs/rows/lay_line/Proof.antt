@@ -1,8 +1,10 @@
 -- `paint::rows::lay_line` meets its contract: the layers that were laid with the line's ground and then the others
 -- are the band. Assumes nothing.
 use borrow.Author.Needs.{needs}
-use mathlib.Core.Path.{_∙_}
+use mathlib.Core.Path.{refl, _∙_}
+use native.Mathlib.Omega.{arith}
 use Rattle.paint.proofs.PlanLaws.{planned-first}
+use Rattle.paint.proofs.LineLaws.{line-done}
 use Rattle.paint.proofs.GroundLaws.{ground-line}
 use Rattle.paint.proofs.rows.lay_line.Statement.{statement}
 use Rattle.paint.proofs.rows.lay_line.Tie as tie
@@ -14,13 +16,19 @@ lay-first-requires : tie.Need-lay-first-requires
 lay-first-requires c κs =
     let a = c .before .before .before .before .before .before .before in (a .pre .1 .0, planned-first _ _ _ _ _ (a .pre .0 .0) (a .pre .1 .0) (a .pre .0 .1))
 
-paint-line-requires : tie.Need-paint-line-requires
-paint-line-requires c κs =
-    let a = c .before .before .before .before .before .before .before .before .before .before .before .before .before in
-    (a .pre .0, (c .before .before .before .before .before .lay-first .kept .0 ∙ a .pre .1 .0, a .pre .1 .3))
-
 same-length : tie.Need-same-length
 same-length c = search needs
+
+returns : tie.Need-returns
+returns c =
+    let a = c .before .before .before .before .before .before .before .before .before .before .before in
+    ground-line _ _ _ _ _ _ _ _ _ _ (a .pre .1 .1) (a .pre .1 .2) (a .pre .1 .4) (c .before .before .before .lay-first .ensures)
+    (line-done _ _ _ _ _ (omega (arith, a .pre .0 .1 .count, c .if1 .taken)) refl)
+
+paint-line-requires : tie.Need-paint-line-requires
+paint-line-requires c κs =
+    let a = c .before .before .before .before .before .before .before .before .before .before .before .before .before .before in
+    (a .pre .0, (c .before .before .before .before .before .before .lay-first .kept .0 ∙ a .pre .1 .0, a .pre .1 .3))
 
 same-length-2 : tie.Need-same-length-2
 same-length-2 c = search needs
@@ -28,10 +36,13 @@ same-length-2 c = search needs
 same-length-3 : tie.Need-same-length-3
 same-length-3 c = search needs
 
-returns : tie.Need-returns
-returns c =
-    let a = c .before .before .before .before .before .before .before .before .before .before .before .before .before .before .before .before .before .before .before .before in
-    ground-line _ _ _ _ _ _ _ _ _ _ (a .pre .1 .1) (a .pre .1 .2) (a .pre .1 .4) (c .before .before .before .before .before .before .before .before .before .before .before .before .lay-first .ensures) (c .before .before .before .before .before .before .paint-line .ensures)
+same-length-4 : tie.Need-same-length-4
+same-length-4 c = search needs
+
+returns-2 : tie.Need-returns-2
+returns-2 c =
+    let a = c .before .before .before .before .before .before .before .before .before .before .before .before .before .before .before .before .before .before .before .before .before in
+    ground-line _ _ _ _ _ _ _ _ _ _ (a .pre .1 .1) (a .pre .1 .2) (a .pre .1 .4) (c .before .before .before .before .before .before .before .before .before .before .before .before .before .lay-first .ensures) (c .before .before .before .before .before .before .paint-line .ensures)
 
 pub lay-line-spec : {M : Type 1} → statement M
 lay-line-spec =
@@ -39,8 +50,10 @@ lay-line-spec =
     (tie.spec
     element-copy-out-lay-first
     lay-first-requires
-    paint-line-requires
     same-length
+    returns
+    paint-line-requires
     same-length-2
     same-length-3
-    returns)
+    same-length-4
+    returns-2)
