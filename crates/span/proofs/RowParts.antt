@@ -65,11 +65,19 @@ same-then {s} {at} {n} {m} {c} a b = record {
       (split k n);
 }
 
--- sixteen, compared by eight with a pair of words of one byte
-module _ {s : List ℕ} {c p q : ℕ} (bp : Bytes p c c c c) (eq : (q % 4294967296 ≡ p) × (q / 4294967296 ≡ p)) where
+pub byte-four-times : (c : ℕ) {v : ℕ} → c < 256 → v ≡ c * 16843009 → Bytes v c c c c
+byte-four-times c {v} h e = record {
+  p0 = omega arith;
+  p1 = let q : v / 256 ≡ c * 65793 = omega arith in rw q (omega arith);
+  p2 = let q : v / 65536 ≡ c * 257 = omega arith in rw q (omega arith);
+  p3 = omega arith;
+}
+
+-- sixteen, compared by eight with one byte eight times
+module _ {s : List ℕ} {c q : ℕ} (bq : Bytes (q % 4294967296) c c c c × Bytes (q / 4294967296) c c c c) where
   same-eight : {at v : ℕ} → EightIs s at v → v ≡ q → Same s at 8 c
-  same-eight {at} {v} b e =
-      same-then (same-four (b .low) bp (ap (λ (n : ℕ). n % 4294967296) e ∙ eq .0)) (same-four (b .high) bp (ap (λ (n : ℕ). n / 4294967296) e ∙ eq .1))
+  same-eight b e =
+      same-then (same-four (b .low) (bq .0) (ap (λ (n : ℕ). n % 4294967296) e)) (same-four (b .high) (bq .1) (ap (λ (n : ℕ). n / 4294967296) e))
 
   pub same-sixteen : {at v w : ℕ} → EightIs s at v → v ≡ q → EightIs s (at + 8) w → w ≡ q → Same s at 16 c
   same-sixteen bv ev bw ew = same-then (same-eight bv ev) (same-eight bw ew)

@@ -57,8 +57,8 @@ pub fn expand(line: &[u8], palette: [u32; 16], row: &mut [u8])
     requires { ⌜ length (now row) ≡ 4 * length (now line) ⌝ }
     ensures { λ _. ⌜ now (row .exit) ≡ tab (length (now (row .entry))) (colourByte (now (line .entry)) palette) ⌝ }
 {
-    let j = rows::expand_blocks(line, palette, row);
-    rows::expand_rest(line, palette, row, j);
+    let j = rows::expand_blocks(line, &palette, row);
+    rows::expand_rest(line, &palette, row, j);
 }
 
 // Fills a row with one opaque colour.

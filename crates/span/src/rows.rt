@@ -2,7 +2,7 @@
 // and one pixel over and over.
 ghost use mathlib.Core.Path.{_≡_};
 ghost use mathlib.Core.Bool.{true};
-ghost use Prim.Native.Nat.{_+_, _*_, _%_, _≤_, _<_};
+ghost use Prim.Native.Nat.{_+_, _*_, _/_, _%_, _≤_, _<_};
 ghost use lib.ListN.{length, getD};
 ghost use Rattle.span.specs.Span.{pixelByte, wordByte, colourByte, fillByte};
 ghost use Rattle.span.specs.Lanes.{Part, Front, anew, wordsByte, Bytes, EightIs, Same};
@@ -69,14 +69,19 @@ fn eight(line: &[u8], j: usize) -> u64
     pair(four(line, j), four(line, j + 4))
 }
 
+// The byte c eight times.
+fn eight_times(c: u8) -> u64
+    ensures { λ r. ⌜ Bytes (r % 4294967296) c c c c × Bytes (r / 4294967296) c c c c ⌝ }
+{
+    (c as u64) * 72340172838076673
+}
+
 // Whether the sixteen indexes from j on are one. Eight are compared at once.
 fn is_one(line: &[u8], j: usize) -> bool
     requires { ⌜ j + 16 ≤ length (now line) ⌝ }
     ensures { λ r. ⌜ (r ≡ true → Same (now (line .entry)) j 16 (getD (now (line .entry)) j 0)) ⌝ }
 {
-    let c = line[j];
-    let p = pixel_of(c, c, c, c);
-    let q = pair(p, p);
+    let q = eight_times(line[j]);
     if eight(line, j) != q {
         return false;
     }
@@ -94,11 +99,11 @@ fn repeat16(row: &mut [u8], i: usize, c: u32)
 }
 
 // The pixels of sixteen indexes, four at a time. All four colours are read before the first is
-// written, and they are read in this loop: a palette that is handed on by value for each pixel is
-// copied each time.
-fn expand16(line: &[u8], palette: [u32; 16], row: &mut [u8], from: usize)
+// written, and they are read in this loop. The palette comes by reference, since by value it would be
+// copied for each block.
+fn expand16(line: &[u8], palette: &[u32; 16], row: &mut [u8], from: usize)
     requires { ⌜ (length (now row) ≡ 4 * length (now line)) × (from + 16 ≤ length (now line)) ⌝ }
-    ensures { λ _. ⌜ Part (now (row .exit)) (now (row .entry)) (anew (colourByte (now (line .entry)) palette)) (4 * from) (4 * (from + 16)) ⌝ }
+    ensures { λ _. ⌜ Part (now (row .exit)) (now (row .entry)) (anew (colourByte (now (line .entry)) (now (palette .entry)))) (4 * from) (4 * (from + 16)) ⌝ }
 {
     let mut k = 0;
     while k < 4 {
@@ -114,9 +119,9 @@ fn expand16(line: &[u8], palette: [u32; 16], row: &mut [u8], from: usize)
 
 // The pixels of the block of indexes from j on. Most of a drawn line is one colour for long, which is
 // then read once.
-fn expand_block(line: &[u8], palette: [u32; 16], row: &mut [u8], j: usize)
+fn expand_block(line: &[u8], palette: &[u32; 16], row: &mut [u8], j: usize)
     requires { ⌜ (length (now row) ≡ 4 * length (now line)) × (j + 16 ≤ length (now line)) ⌝ }
-    ensures { λ _. ⌜ Part (now (row .exit)) (now (row .entry)) (anew (colourByte (now (line .entry)) palette)) (4 * j) (4 * (j + 16)) ⌝ }
+    ensures { λ _. ⌜ Part (now (row .exit)) (now (row .entry)) (anew (colourByte (now (line .entry)) (now (palette .entry)))) (4 * j) (4 * (j + 16)) ⌝ }
 {
     if is_one(line, j) {
         let c = palette[index_of(line[j])];
@@ -127,9 +132,9 @@ fn expand_block(line: &[u8], palette: [u32; 16], row: &mut [u8], j: usize)
 }
 
 // The pixels of a line, block by block, answering where the blocks end.
-pub fn expand_blocks(line: &[u8], palette: [u32; 16], row: &mut [u8]) -> usize
+pub fn expand_blocks(line: &[u8], palette: &[u32; 16], row: &mut [u8]) -> usize
     requires { ⌜ length (now row) ≡ 4 * length (now line) ⌝ }
-    ensures { λ r. ⌜ Front (now (row .exit)) (now (row .entry)) (anew (colourByte (now (line .entry)) palette)) (4 * r) ⌝ }
+    ensures { λ r. ⌜ Front (now (row .exit)) (now (row .entry)) (anew (colourByte (now (line .entry)) (now (palette .entry)))) (4 * r) ⌝ }
 {
     let mut j = 0;
     while 16 <= line.len() - j {
@@ -140,9 +145,9 @@ pub fn expand_blocks(line: &[u8], palette: [u32; 16], row: &mut [u8]) -> usize
 }
 
 // The pixels of a line from `from` on.
-pub fn expand_rest(line: &[u8], palette: [u32; 16], row: &mut [u8], from: usize)
+pub fn expand_rest(line: &[u8], palette: &[u32; 16], row: &mut [u8], from: usize)
     requires { ⌜ (length (now row) ≡ 4 * length (now line)) × (4 * from ≤ length (now row)) ⌝ }
-    ensures { λ _. ⌜ Part (now (row .exit)) (now (row .entry)) (anew (colourByte (now (line .entry)) palette)) (4 * from) (length (now (row .entry))) ⌝ }
+    ensures { λ _. ⌜ Part (now (row .exit)) (now (row .entry)) (anew (colourByte (now (line .entry)) (now (palette .entry)))) (4 * from) (length (now (row .entry))) ⌝ }
 {
     let mut j = from;
     while j < line.len() {

@@ -13,11 +13,11 @@ use Rattle.span.proofs.rows.expand16.Statement.{statement}
 use Rattle.span.proofs.rows.expand16.Tie as tie
 
 abbrev Inv-loop : tie.InvT-loop
-Inv-loop line row₀ from palette k₀ row k =
+Inv-loop line palette row₀ from k₀ row k =
     (k ≤ 4) × (length row ≡ length row₀) × Part row row₀ (anew (colourByte line palette)) (4 * from) (4 * (from + 4 * k))
 
 abbrev μ-loop : tie.MeasureT-loop
-μ-loop line row₀ from palette k₀ row k = 4 - k
+μ-loop line palette row₀ from k₀ row k = 4 - k
 
 loop-holds : tie.Need-loop-holds Inv-loop μ-loop
 loop-holds c = (search needs, search needs, part-none _ _ _ _ (omega arith))
@@ -37,8 +37,8 @@ index-of-requires c κs = search needs
 mul-c0 : tie.Need-mul-c0 Inv-loop μ-loop
 mul-c0 c = search needs
 
-array-read-c0 : tie.Need-array-read-c0 Inv-loop μ-loop
-array-read-c0 c = search needs
+element-copy-out-c0 : tie.Need-element-copy-out-c0 Inv-loop μ-loop
+element-copy-out-c0 c = search needs
 
 add-index-of : tie.Need-add-index-of Inv-loop μ-loop
 add-index-of c = search needs
@@ -52,8 +52,8 @@ index-of-requires-2 c κs = search needs
 mul-c1 : tie.Need-mul-c1 Inv-loop μ-loop
 mul-c1 c = search needs
 
-array-read-c1 : tie.Need-array-read-c1 Inv-loop μ-loop
-array-read-c1 c = search needs
+element-copy-out-c1 : tie.Need-element-copy-out-c1 Inv-loop μ-loop
+element-copy-out-c1 c = search needs
 
 add-index-of-2 : tie.Need-add-index-of-2 Inv-loop μ-loop
 add-index-of-2 c = search needs
@@ -67,8 +67,8 @@ index-of-requires-3 c κs = search needs
 mul-c2 : tie.Need-mul-c2 Inv-loop μ-loop
 mul-c2 c = search needs
 
-array-read-c2 : tie.Need-array-read-c2 Inv-loop μ-loop
-array-read-c2 c = search needs
+element-copy-out-c2 : tie.Need-element-copy-out-c2 Inv-loop μ-loop
+element-copy-out-c2 c = search needs
 
 add-index-of-3 : tie.Need-add-index-of-3 Inv-loop μ-loop
 add-index-of-3 c = search needs
@@ -82,8 +82,8 @@ index-of-requires-4 c κs = search needs
 mul-c3 : tie.Need-mul-c3 Inv-loop μ-loop
 mul-c3 c = search needs
 
-array-read-c3 : tie.Need-array-read-c3 Inv-loop μ-loop
-array-read-c3 c = search needs
+element-copy-out-c3 : tie.Need-element-copy-out-c3 Inv-loop μ-loop
+element-copy-out-c3 c = search needs
 
 mul-put-words : tie.Need-mul-put-words Inv-loop μ-loop
 mul-put-words c = search needs
@@ -100,10 +100,10 @@ loop-less c = search needs
 loop-again : tie.Need-loop-again Inv-loop μ-loop
 loop-again c =
     let put = c .before .before in
-    let fourth = put .before .before in
-    let third = fourth .before .before in
-    let second = third .before .before in
-    let first = second .before .before in
+    let fourth = put .before .before .before in
+    let third = fourth .before .before .before in
+    let second = third .before .before .before in
+    let first = second .before .before .before in
     let head = first .before .before .before in (
       search needs,
       search needs,
@@ -129,22 +129,22 @@ expand16-spec =
     shared-slice-read-index-of
     index-of-requires
     mul-c0
-    array-read-c0
+    element-copy-out-c0
     add-index-of
     shared-slice-read-index-of-2
     index-of-requires-2
     mul-c1
-    array-read-c1
+    element-copy-out-c1
     add-index-of-2
     shared-slice-read-index-of-3
     index-of-requires-3
     mul-c2
-    array-read-c2
+    element-copy-out-c2
     add-index-of-3
     shared-slice-read-index-of-4
     index-of-requires-4
     mul-c3
-    array-read-c3
+    element-copy-out-c3
     mul-put-words
     put-words-requires
     add-k

@@ -17,8 +17,8 @@ index-of-requires c κs = search needs
 mul-c : tie.Need-mul-c
 mul-c c = search needs
 
-array-read-c : tie.Need-array-read-c
-array-read-c c = search needs
+element-copy-out-c : tie.Need-element-copy-out-c
+element-copy-out-c c = search needs
 
 mul-repeat16 : tie.Need-mul-repeat16
 mul-repeat16 c = search needs
@@ -31,7 +31,7 @@ same-length c = search needs
 
 returns : tie.Need-returns
 returns c =
-    let index = c .before .before .before .before in
+    let index = c .before .before .before .before .before in
     let tested = index .before .before .before in
     colour-same _ _ _ _ (c .before .before .repeat16 .ensures) (index .index-of .ensures .0) (tested .is-one .ensures (index .before .before .if1 .taken))
 
@@ -52,7 +52,7 @@ expand-block-spec =
     shared-slice-read-index-of
     index-of-requires
     mul-c
-    array-read-c
+    element-copy-out-c
     mul-repeat16
     repeat16-requires
     same-length

@@ -13,10 +13,10 @@ use Rattle.span.proofs.rows.expand_rest.Statement.{statement}
 use Rattle.span.proofs.rows.expand_rest.Tie as tie
 
 abbrev Inv-loop : tie.InvT-loop
-Inv-loop line row₀ from palette j₀ row j = (4 * from ≤ 4 * j) × (j ≤ length line) × (length row ≡ length row₀) × Part row row₀ (anew (colourByte line palette)) (4 * from) (4 * j)
+Inv-loop line palette row₀ from j₀ row j = (4 * from ≤ 4 * j) × (j ≤ length line) × (length row ≡ length row₀) × Part row row₀ (anew (colourByte line palette)) (4 * from) (4 * j)
 
 abbrev μ-loop : tie.MeasureT-loop
-μ-loop line row₀ from palette j₀ row j = length line - j
+μ-loop line palette row₀ from j₀ row j = length line - j
 
 loop-holds : tie.Need-loop-holds Inv-loop μ-loop
 loop-holds c = (search needs, search needs, search needs, part-none _ _ _ _ (omega arith))
@@ -30,8 +30,8 @@ index-of-requires c κs = search needs
 mul-c : tie.Need-mul-c Inv-loop μ-loop
 mul-c c = search needs
 
-array-read-c : tie.Need-array-read-c Inv-loop μ-loop
-array-read-c c = search needs
+element-copy-out-c : tie.Need-element-copy-out-c Inv-loop μ-loop
+element-copy-out-c c = search needs
 
 mul-put-word : tie.Need-mul-put-word Inv-loop μ-loop
 mul-put-word c = search needs
@@ -64,7 +64,7 @@ expand-rest-spec =
     shared-slice-read-index-of
     index-of-requires
     mul-c
-    array-read-c
+    element-copy-out-c
     mul-put-word
     put-word-requires
     add-j
