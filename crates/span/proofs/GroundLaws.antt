@@ -1,5 +1,5 @@
 -- Blocks of a run over one pixel, and a whole run over a row of it. Assumes nothing.
-use mathlib.Core.Path.{_≡_, sym, ap, _∙_}
+use mathlib.Core.Path.{_≡_, refl, sym, ap, _∙_}
 use mathlib.Core.Bool.{Bool, false}
 use mathlib.Core.Logic.{⊎-elim}
 use mathlib.Core.List.{List, [], _∷_}
@@ -10,17 +10,17 @@ use Rattle.lists.specs.Tab.{tab, each}
 use Rattle.lists.proofs.Choice.{split}
 use Rattle.lists.proofs.Tab.{length-tab, getD-tab, is-each}
 use Rattle.span.specs.Span.{overByte, wordByte, fillByte}
-use Rattle.span.specs.Lanes.{Part, Front, Lanes, anew, laidByte, WordIs, Bytes, PixelIs, SameIs, HalfIs, JoinIs, MixIs, AllAlpha, storeByte}
+use Rattle.span.specs.Lanes.{Part, Front, Lanes, anew, layByte, WordIs, Bytes, PixelIs, SameIs, HalfIs, JoinIs, MixIs, AllAlpha, storeByte}
 use Rattle.span.proofs.PartLaws.{part-turn, part-cong}
 use Rattle.span.proofs.LaneLaws.{storeByte-even, storeByte-odd}
-use Rattle.span.proofs.OverLaws.{overByte-own}
+use Rattle.span.proofs.OverLaws.{overByte-clear, overByte-own}
 use Rattle.span.proofs.OverParts.{AlphaIs, mix-bytes, copy-bytes}
 use Rattle.span.proofs.PixelLaws.{halves-byte, wordByte-is}
 use Rattle.span.proofs.RowLaws.{pixelByte-at}
 
-laid-is : (over : List ℕ) (g : Bool) (a : ℕ) (f : ℕ → ℕ) (i : ℕ) {p : ℕ} → p ≡ f i → overByte over g a i p ≡ laidByte over g a f i
-unfolding laidByte
-laid-is over g a f i e = ap (overByte over g a i) e
+lay-is : (over : List ℕ) (g : Bool) (a : ℕ) (f : ℕ → ℕ) (i : ℕ) {p : ℕ} → p ≡ f i → overByte over g a i p ≡ layByte over g a f i
+unfolding layByte
+lay-is over g a f i e = ap (overByte over g a i) e
 
 -- ---- a block
 
@@ -60,31 +60,37 @@ module _ (c at : ℕ) (h : at % 4 ≡ 0) where
   module _ (over : List ℕ) where
     pub lay-mixed : {l l₀ ow p u al w : List ℕ} {g : Bool} {a : ℕ} → Lanes ow 32 (WordIs over at) → Lanes p 16 (SameIs c) → Lanes u 32 (HalfIs p)
         → Lanes al 32 (AlphaIs over at g a) → Lanes w 32 (MixIs al ow u) → Part l l₀ (anew (storeByte w at)) at (at + 64)
-        → Part l l₀ (anew (laidByte over g a (wordByte c))) at (at + 64)
+        → Part l l₀ (anew (layByte over g a (wordByte c))) at (at + 64)
     lay-mixed {g = g} {a = a} eo ep eu ea ew pt = part-cong pt (λ i h1 h2.
         mix-bytes row over g a at h eo (ground-words ep eu) ea ew i h1 h2
-        ∙ laid-is over g a (wordByte c) i (getD-tab (at + 64) (wordByte c) i h2))
+        ∙ lay-is over g a (wordByte c) i (getD-tab (at + 64) (wordByte c) i h2))
 
     pub lay-copied : {l l₀ p q w hw : List ℕ} → Lanes p 16 (PixelIs over at) → Lanes q 16 (SameIs c) → Lanes w 16 (JoinIs p q) → Lanes hw 32 (HalfIs w)
-        → AllAlpha over at 16 255 → Part l l₀ (anew (storeByte hw at)) at (at + 64) → Part l l₀ (anew (laidByte over false 0 (wordByte c))) at (at + 64)
+        → AllAlpha over at 16 255 → Part l l₀ (anew (storeByte hw at)) at (at + 64) → Part l l₀ (anew (layByte over false 0 (wordByte c))) at (at + 64)
     lay-copied ep eq ew eh all pt = part-cong pt (λ i h1 h2.
         copy-bytes row over at h ep (ground-pixels eq) ew eh i h1 h2
         ∙ overByte-own over i (getD row i 0) (at + 4 * ((i - at) / 4) + 3) 255 (omega arith) (all .all ((i - at) / 4) (omega arith))
-        ∙ laid-is over false 0 (wordByte c) i (getD-tab (at + 64) (wordByte c) i h2))
+        ∙ lay-is over false 0 (wordByte c) i (getD-tab (at + 64) (wordByte c) i h2))
+
+    pub lay-clear : {l l₀ : List ℕ} → AllAlpha over at 16 0 → Part l l₀ (anew (wordByte c)) at (at + 64) → Part l l₀ (anew (layByte over false 0 (wordByte c))) at (at + 64)
+    lay-clear all pt = part-cong pt (λ i h1 h2.
+        sym (overByte-clear over i (wordByte c i))
+        ∙ overByte-own over i (wordByte c i) (at + 4 * ((i - at) / 4) + 3) 0 (omega arith) (all .all ((i - at) / 4) (omega arith))
+        ∙ lay-is over false 0 (wordByte c) i refl)
 
 -- ---- a run
 
 -- one block more, over the row that the pixel's bytes make
-pub lay-turn : (over : List ℕ) (g : Bool) (a c0 c1 c2 : ℕ) {c : ℕ} {r l l₀ : List ℕ} {i : ℕ} → Part l l₀ (anew (laidByte over g a (fillByte c0 c1 c2))) 0 i → Bytes c c0 c1 c2 255
-    → Part r l (anew (laidByte over g a (wordByte c))) i (i + 64) → Part r l₀ (anew (laidByte over g a (fillByte c0 c1 c2))) 0 (i + 64)
-unfolding laidByte
+pub lay-turn : (over : List ℕ) (g : Bool) (a c0 c1 c2 : ℕ) {c : ℕ} {r l l₀ : List ℕ} {i : ℕ} → Part l l₀ (anew (layByte over g a (fillByte c0 c1 c2))) 0 i → Bytes c c0 c1 c2 255
+    → Part r l (anew (layByte over g a (wordByte c))) i (i + 64) → Part r l₀ (anew (layByte over g a (fillByte c0 c1 c2))) 0 (i + 64)
+unfolding layByte
 lay-turn over g a c0 c1 c2 {c} {i = i} p b q =
     part-turn 64 p (omega arith) (part-cong q (λ j h1 h2. ap (overByte over g a j) (wordByte-is c c0 c1 c2 255 j b)))
 
 -- the blocks, and then the rest filled and blended
-pub lay-each : (over : List ℕ) (g : Bool) (a : ℕ) {f : ℕ → ℕ} {r k l l₀ : List ℕ} {b : ℕ} → Front l l₀ (anew (laidByte over g a f)) b → Part k l (anew f) b (length l)
+pub lay-each : (over : List ℕ) (g : Bool) (a : ℕ) {f : ℕ → ℕ} {r k l l₀ : List ℕ} {b : ℕ} → Front l l₀ (anew (layByte over g a f)) b → Part k l (anew f) b (length l)
     → Part r k (overByte over g a) b (length k) → r ≡ each (overByte over g a) (tab (length l₀) f)
-unfolding laidByte
+unfolding layByte
 lay-each over g a {f} {r} {k} {l} {l₀} {b} p q s = is-each _ r (overByte over g a) (s .long ∙ q .long ∙ p .part .long ∙ sym (length-tab (length l₀) f))
     (λ i h. let n : i < length l₀ = omega (arith, length-tab (length l₀) f) in rw (getD-tab (length l₀) f i n) (⊎-elim
     (λ (lt : i < b). s .low i lt ∙ q .low i lt ∙ p .part .new i (omega arith) lt)

@@ -30,8 +30,8 @@ abbrev pub anew : (ℕ → ℕ) → ℕ → ℕ → ℕ
 anew f i p = f i
 
 -- byte i of a run over a row that goes by the rule f
-unfoldable pub laidByte : List ℕ → Bool → ℕ → (ℕ → ℕ) → ℕ → ℕ
-laidByte over global alpha f i = overByte over global alpha i (f i)
+unfoldable pub layByte : List ℕ → Bool → ℕ → (ℕ → ℕ) → ℕ → ℕ
+layByte over global alpha f i = overByte over global alpha i (f i)
 
 -- byte i of four words as pixels, from `at` on
 unfoldable pub wordsByte : ℕ → ℕ → ℕ → ℕ → ℕ → ℕ → ℕ

@@ -5,24 +5,26 @@ ghost use mathlib.Core.Bool.{true, false};
 ghost use Prim.Native.Nat.{_+_, _%_, _≤_};
 ghost use lib.ListN.{length};
 ghost use Rattle.span.specs.Span.{wordByte, fillByte};
-ghost use Rattle.span.specs.Lanes.{Part, Front, anew, laidByte};
+ghost use Rattle.span.specs.Lanes.{Part, Front, anew, layByte};
 use super::digits::pixel_of;
 use super::lanes::mixed;
 use super::lanes::one_alpha;
 use super::lanes::own_alphas;
 use super::lanes::store;
 use super::lanes::words;
+use super::pixels::all_clear;
 use super::pixels::all_opaque;
 use super::pixels::halves;
 use super::pixels::joined;
 use super::pixels::pixels;
 use super::pixels::repeated;
+use super::rows::repeat16;
 
 // A block over the pixel c, each pixel at its own alpha. The pixel comes as one word: sixteen of
 // them by value would be copied each time.
 fn lay16(out: &mut [u8], over: &[u8], c: u32, i: usize)
     requires { ⌜ (i + 64 ≤ length (now out)) × (i + 64 ≤ length (now over)) × (i % 4 ≡ 0) ⌝ }
-    ensures { λ _. ⌜ Part (now (out .exit)) (now (out .entry)) (anew (laidByte (now (over .entry)) false 0 (wordByte c))) i (i + 64) ⌝ }
+    ensures { λ _. ⌜ Part (now (out .exit)) (now (out .entry)) (anew (layByte (now (over .entry)) false 0 (wordByte c))) i (i + 64) ⌝ }
 {
     let o = words(over, i);
     let p = repeated(c);
@@ -35,7 +37,7 @@ fn lay16(out: &mut [u8], over: &[u8], c: u32, i: usize)
 // The same with all pixels at one alpha.
 fn lay_flat16(out: &mut [u8], over: &[u8], c: u32, alpha: u8, i: usize)
     requires { ⌜ (i + 64 ≤ length (now out)) × (i + 64 ≤ length (now over)) × (i % 4 ≡ 0) ⌝ }
-    ensures { λ _. ⌜ Part (now (out .exit)) (now (out .entry)) (anew (laidByte (now (over .entry)) true alpha (wordByte c))) i (i + 64) ⌝ }
+    ensures { λ _. ⌜ Part (now (out .exit)) (now (out .entry)) (anew (layByte (now (over .entry)) true alpha (wordByte c))) i (i + 64) ⌝ }
 {
     let o = words(over, i);
     let p = repeated(c);
@@ -45,13 +47,23 @@ fn lay_flat16(out: &mut [u8], over: &[u8], c: u32, alpha: u8, i: usize)
     store(out, i, w);
 }
 
-// A block over the pixel c, where no byte is blended for an opaque one. Two calls of `lay16` keep it
-// a function of its own.
+// A block over the pixel c, where no byte is blended for a clear one and for an opaque one. Three
+// calls of `lay16` keep it a function of its own.
 fn lay_block(out: &mut [u8], over: &[u8], c: u32, i: usize)
     requires { ⌜ (i + 64 ≤ length (now out)) × (i + 64 ≤ length (now over)) × (i % 4 ≡ 0) ⌝ }
-    ensures { λ _. ⌜ Part (now (out .exit)) (now (out .entry)) (anew (laidByte (now (over .entry)) false 0 (wordByte c))) i (i + 64) ⌝ }
+    ensures { λ _. ⌜ Part (now (out .exit)) (now (out .entry)) (anew (layByte (now (over .entry)) false 0 (wordByte c))) i (i + 64) ⌝ }
 {
-    if over[i + 3] == 255 {
+    let a = over[i + 3];
+    if a == 0 {
+        let p = pixels(over, i);
+        if all_clear(p) {
+            repeat16(out, i, c);
+            return;
+        }
+        lay16(out, over, c, i);
+        return;
+    }
+    if a == 255 {
         let p = pixels(over, i);
         if all_opaque(p) {
             let q = repeated(c);
@@ -69,7 +81,7 @@ fn lay_block(out: &mut [u8], over: &[u8], c: u32, i: usize)
 // The blocks, each pixel at its own alpha, answering where they end.
 pub fn lay_blocks(out: &mut [u8], over: &[u8], c0: u8, c1: u8, c2: u8) -> usize
     requires { ⌜ length (now out) ≡ length (now over) ⌝ }
-    ensures { λ r. ⌜ Front (now (out .exit)) (now (out .entry)) (anew (laidByte (now (over .entry)) false 0 (fillByte c0 c1 c2))) r ⌝ }
+    ensures { λ r. ⌜ Front (now (out .exit)) (now (out .entry)) (anew (layByte (now (over .entry)) false 0 (fillByte c0 c1 c2))) r ⌝ }
 {
     let c = pixel_of(c0, c1, c2, 255);
     let mut i = 0;
@@ -83,7 +95,7 @@ pub fn lay_blocks(out: &mut [u8], over: &[u8], c0: u8, c1: u8, c2: u8) -> usize
 // The blocks, all pixels at one alpha.
 pub fn lay_flat_blocks(out: &mut [u8], over: &[u8], alpha: u8, c0: u8, c1: u8, c2: u8) -> usize
     requires { ⌜ length (now out) ≡ length (now over) ⌝ }
-    ensures { λ r. ⌜ Front (now (out .exit)) (now (out .entry)) (anew (laidByte (now (over .entry)) true alpha (fillByte c0 c1 c2))) r ⌝ }
+    ensures { λ r. ⌜ Front (now (out .exit)) (now (out .entry)) (anew (layByte (now (over .entry)) true alpha (fillByte c0 c1 c2))) r ⌝ }
 {
     let c = pixel_of(c0, c1, c2, 255);
     let mut i = 0;

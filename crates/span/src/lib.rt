@@ -81,11 +81,16 @@ pub fn lay(out: &mut [u8], over: &[u8], c0: u8, c1: u8, c2: u8)
     runs::own_rest(out, over, i);
 }
 
-// The same with all pixels at one alpha.
+// The same with all pixels at one alpha: at 0 and at 255 no byte of a block is blended.
 pub fn lay_flat(out: &mut [u8], over: &[u8], alpha: u8, c0: u8, c1: u8, c2: u8)
     requires { ⌜ (length (now out) ≡ length (now over)) × (length (now out) % 4 ≡ 0) ⌝ }
     ensures { λ _. ⌜ now (out .exit) ≡ each (overByte (now (over .entry)) true alpha) (tab (length (now (out .entry))) (fillByte c0 c1 c2)) ⌝ }
 {
+    if alpha % 255 == 0 {
+        fill(out, c0, c1, c2);
+        blend_flat(out, over, alpha);
+        return;
+    }
     let i = grounds::lay_flat_blocks(out, over, alpha, c0, c1, c2);
     rows::fill_rest(out, i, c0, c1, c2);
     runs::flat_rest(out, over, i, alpha);

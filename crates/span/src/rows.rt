@@ -89,7 +89,7 @@ fn is_one(line: &[u8], j: usize) -> bool
 }
 
 // Writes the pixel c sixteen times, from i on.
-fn repeat16(row: &mut [u8], i: usize, c: u32)
+pub fn repeat16(row: &mut [u8], i: usize, c: u32)
     requires { ⌜ (i + 64 ≤ length (now row)) × (i % 4 ≡ 0) ⌝ }
     ensures { λ _. ⌜ Part (now (row .exit)) (now (row .entry)) (anew (wordByte c)) i (i + 64) ⌝ }
 {

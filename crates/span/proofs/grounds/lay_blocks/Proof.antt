@@ -7,7 +7,7 @@ use native.Mathlib.Omega.{arith}
 use lib.ListN.{length}
 use borrow.Author.Needs.{needs}
 use Rattle.span.specs.Span.{fillByte}
-use Rattle.span.specs.Lanes.{Part, anew, laidByte}
+use Rattle.span.specs.Lanes.{Part, anew, layByte}
 use Rattle.span.proofs.PartLaws.{part-none}
 use Rattle.span.proofs.GroundLaws.{lay-turn}
 use Rattle.span.proofs.grounds.lay_blocks.Statement.{statement}
@@ -15,7 +15,7 @@ use Rattle.span.proofs.grounds.lay_blocks.Tie as tie
 
 abbrev Inv-loop : tie.InvT-loop
 Inv-loop out₀ over c0 c1 c2 c i₀ out i =
-    (i % 4 ≡ 0) × (i ≤ length out₀) × (length out ≡ length out₀) × Part out out₀ (anew (laidByte over false 0 (fillByte c0 c1 c2))) 0 i
+    (i % 4 ≡ 0) × (i ≤ length out₀) × (length out ≡ length out₀) × Part out out₀ (anew (layByte over false 0 (fillByte c0 c1 c2))) 0 i
 
 abbrev μ-loop : tie.MeasureT-loop
 μ-loop out₀ over c0 c1 c2 c i₀ out i = length out₀ - i
