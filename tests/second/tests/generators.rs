@@ -110,7 +110,7 @@ fn host_cases_reach_every_kind_of_block() {
             &case.pictures,
             &mut case.output.clone(),
         );
-        if painted == DONE {
+        if painted == DONE && image_words(&case.image).is_some_and(|words| words.display_on()) {
             block_kinds(&case).into_iter().for_each(|kind| *counts.entry(kind).or_insert(0) += 1);
         }
     }
