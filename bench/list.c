@@ -3,11 +3,9 @@
 #include <string.h>
 
 #include "list.h"
+#include "tables.h"
 
-enum { INSTRUCTIONS = 48, INSTRUCTION_LENGTH = 16 };
-enum { STRINGS_AT = 832, STRINGS = 8, STRING_LENGTH = 32 };
-enum { FONT_AT = 1088, GLYPH_SIDE = 8, FIRST_GLYPH = 32, LAST_GLYPH = 127 };
-enum { END = 0, BOX = 10, TEXT = 12, BOX_AND_TEXT = 14 };
+enum { GLYPH_SIDE = 8, FIRST_GLYPH = 32, LAST_GLYPH = FIRST_GLYPH + GLYPHS - 1 };
 
 struct plane {
     uint8_t *indexes;
@@ -51,7 +49,7 @@ static void outline(const struct plane *plane, struct box b, uint32_t weight, ui
     fill_box(plane, (struct box){b.x1 - weight + 1, b.x1, b.y0, b.y1}, colour);
 }
 
-static void draw_box(const struct plane *plane, const uint8_t *instruction)
+static void obey_box(const struct plane *plane, const uint8_t *instruction)
 {
     uint32_t across = word_at(instruction), down = word_at(instruction + 8);
     struct box box = {across & 4095, across >> 12 & 4095, down & 4095, down >> 12 & 4095};
@@ -84,7 +82,7 @@ static void draw_glyph(const struct plane *plane, const uint8_t *glyph, uint32_t
         draw_glyph_row(plane, glyph[row], x, y + row * side, side, colour);
 }
 
-static void draw_text(const struct plane *plane, const uint8_t *bank, const uint8_t *instruction)
+static void obey_text(const struct plane *plane, const uint8_t *bank, const uint8_t *instruction)
 {
     uint32_t x = word_at(instruction) & 4095, down = word_at(instruction + 8);
     uint32_t y = down & 4095, side = UINT32_C(1) << (down >> 30);
@@ -93,7 +91,7 @@ static void draw_text(const struct plane *plane, const uint8_t *bank, const uint
         return;
     const uint8_t *string = bank + STRINGS_AT + STRING_LENGTH * number;
     for (int i = 0; i < STRING_LENGTH && string[i] != 0; i++, x += GLYPH_SIDE * side) {
-        const uint8_t *glyph = bank + FONT_AT + GLYPH_SIDE * (string[i] - FIRST_GLYPH);
+        const uint8_t *glyph = bank + FONT_AT + GLYPH_LENGTH * (string[i] - FIRST_GLYPH);
         if (string[i] >= FIRST_GLYPH && string[i] <= LAST_GLYPH)
             draw_glyph(plane, glyph, x, y, side, colour);
     }
@@ -111,8 +109,8 @@ void draw_list(const uint8_t *bank, uint32_t width, uint32_t height, uint8_t *in
         if (opcode == END)
             return;
         if (opcode == BOX || opcode == BOX_AND_TEXT)
-            draw_box(&plane, instruction);
+            obey_box(&plane, instruction);
         if (opcode == TEXT || opcode == BOX_AND_TEXT)
-            draw_text(&plane, bank, instruction);
+            obey_text(&plane, bank, instruction);
     }
 }

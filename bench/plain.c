@@ -6,7 +6,7 @@
 #include "list.h"
 #include "painter.h"
 
-enum { CHANNELS = 3, COLOURS_AT = 768 };
+enum { CHANNELS = 3 };
 
 static uint8_t blend(uint32_t a, uint32_t over, uint32_t under)
 {

@@ -6,7 +6,7 @@
 #include "list.h"
 #include "scene.h"
 
-enum { PAGE = 4096, CONTROLLER_LENGTH = 3712, COLOURS_AT = 768, ALPHA = 153, FRAME = 1045 };
+enum { PAGE = 4096, ALPHA = 153, FRAME = 1045 };
 
 void *room(size_t length)
 {

@@ -107,8 +107,8 @@ struct scene *museum(uint32_t width, uint32_t height)
 static void draw_label(struct bank *bank, uint32_t x, uint32_t y, uint32_t width, uint32_t height,
                        uint32_t scale, uint32_t string)
 {
-    enum { BOX_AND_TEXT = 14, LENGTH = 16, BOX_COLOUR = 3, TEXT_COLOUR = 2 };
-    uint8_t *to = bank->bytes + LENGTH * bank->instructions++;
+    enum { BOX_COLOUR = 3, TEXT_COLOUR = 2 };
+    uint8_t *to = bank->bytes + INSTRUCTION_LENGTH * bank->instructions++;
     put_word(to, (uint32_t)BOX_AND_TEXT << 28 | (x + width - 1) << 12 | x);
     put_word(to + 4, string);
     put_word(to + 8, scale << 30 | (y + height - 1) << 12 | y);
@@ -146,5 +146,5 @@ struct scene *list_of(uint32_t width, uint32_t height, int instructions)
 
 struct scene *full_list(uint32_t width, uint32_t height)
 {
-    return list_of(width, height, 48);
+    return list_of(width, height, INSTRUCTIONS);
 }

@@ -3,9 +3,11 @@
 #ifndef FONT_H
 #define FONT_H
 
-enum { GLYPHS = 96, GLYPH_ROWS = 8, SIDE_BY_SIDE = 8, GLYPH_PITCH = 9 };
+#include "tables.h"
 
-static const char *const FONT[GLYPHS / SIDE_BY_SIDE * GLYPH_ROWS] = {
+enum { SIDE_BY_SIDE = 8, GLYPH_PITCH = 9 };
+
+static const char *const FONT[GLYPHS / SIDE_BY_SIDE * GLYPH_LENGTH] = {
     /* space ! " # $ % & ' */
     "........ ..##.... ##..##.. .##.##.. ..##.... ##...#.. .###.... ..##....",
     "........ ..##.... ##..##.. .##.##.. .#####.. ##..##.. ##.##... ..##....",

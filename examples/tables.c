@@ -1,13 +1,14 @@
-/* Where things lie in the table buffer, and how an instruction is packed. */
+/* How a bank is filled and an instruction packed. */
 #include <assert.h>
 #include <string.h>
 
 #include "font.h"
+#include "spoonwing.h"
 #include "tables.h"
 
-enum { CONTROLLER_LENGTH = 3712, COLOURS_AT = 768, STRINGS_AT = 832, FONT_AT = 1088 };
-enum { INSTRUCTIONS = 48, INSTRUCTION_LENGTH = 16, STRINGS = 8, STRING_LENGTH = 32 };
-enum { BOX = 10, TEXT = 12 };
+/* The whole buffer is the controllers, one after another: a size below 0 does not compile. */
+enum { CONTROLLERS = 8 };
+typedef char whole_tables[CONTROLLERS * CONTROLLER_LENGTH == SPOONWING_TABLES_LENGTH ? 1 : -1];
 
 void put_word(uint8_t *to, uint32_t word)
 {
@@ -27,17 +28,17 @@ static uint8_t glyph_row(const char *drawn)
 struct bank first_bank(uint8_t *tables, int controller)
 {
     struct bank bank = {tables + CONTROLLER_LENGTH * controller, 0, 0};
-    for (int i = 0; i < GLYPHS * GLYPH_ROWS; i++) {
-        int glyph = i / GLYPH_ROWS, row = i % GLYPH_ROWS;
-        const char *drawn = FONT[glyph / SIDE_BY_SIDE * GLYPH_ROWS + row];
+    for (int i = 0; i < GLYPHS * GLYPH_LENGTH; i++) {
+        int glyph = i / GLYPH_LENGTH, row = i % GLYPH_LENGTH;
+        const char *drawn = FONT[glyph / SIDE_BY_SIDE * GLYPH_LENGTH + row];
         bank.bytes[FONT_AT + i] = glyph_row(drawn + glyph % SIDE_BY_SIDE * GLYPH_PITCH);
     }
     return bank;
 }
 
-void set_colour(struct bank *bank, int index, const uint8_t colour[4])
+void set_colour(struct bank *bank, int index, const uint8_t colour[COLOUR_LENGTH])
 {
-    memcpy(bank->bytes + COLOURS_AT + 4 * index, colour, 4);
+    memcpy(bank->bytes + COLOURS_AT + COLOUR_LENGTH * index, colour, COLOUR_LENGTH);
 }
 
 static uint8_t *next_instruction(struct bank *bank)

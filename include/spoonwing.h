@@ -1,7 +1,7 @@
 /* Spoonwing's one entry for a C host: paints a whole frame from a register image.
  *
- * Link with target/staticlib/libhost.a, which `rt staticlib host` writes for x86-64; it needs nothing
- * beside it. */
+ * Link with target/staticlib/libhost.a, which `rt staticlib host` writes for x86-64; it needs
+ * nothing beside it but memcpy and memset of the C library. */
 #ifndef SPOONWING_H
 #define SPOONWING_H
 
@@ -38,7 +38,7 @@ enum spoonwing_answer {
  *           frame is background.
  * frame     the frame number that fades go by, used as given.
  * tables    29,696 bytes: controller g at 3,712 g, its bank b at +1,856 b, in it instructions at 0,
- *           colours at 768, strings at 832, the font at 1,088.
+ *           colours at 768, strings at 832, the font at 1,088 (by name: examples/tables.h).
  * pictures  the pictures of the enabled frame layers in rising layer number, each 4 * width * height
  *           bytes in raster order, without gaps.
  * output    4 * width * height bytes, a pixel being channel 0, 1, 2, alpha. What it held does not
@@ -48,8 +48,9 @@ enum spoonwing_answer {
  * a refusal leaves every byte of the output as it was. Error bits of lists without END are dropped.
  *
  * The output must not overlap the other buffers; those are only read and may overlap each other. A
- * pointer may be anything but NULL where its length is 0, and must point to that many bytes where it
- * is not. Calls keep no state, so calls on several threads are safe while no two share an output. */
+ * pointer must point to as many bytes as its length says. Where the length is 0 nothing is read or
+ * written through it, and it may be NULL. Calls keep no state, so calls on several threads are safe
+ * while no two share an output. */
 uint32_t spoonwing_frame(const uint8_t *image, size_t image_length,
                          uint32_t frame,
                          const uint8_t *tables, size_t tables_length,

@@ -1,13 +1,14 @@
-/* A C host that makes the calls it reads. A call comes as five numbers of 32 bits, little-endian (frame
- * number and the lengths of image, tables, pictures and output), and those buffers' bytes; it is told
- * as the answer, 1 or 0 for whether a byte beside a buffer or of an input was touched, and the output. */
+/* A C host that makes the calls it reads. A call comes as six numbers of 32 bits, little-endian
+ * (frame number, whether a buffer of no bytes is passed as NULL, and the lengths of image, tables,
+ * pictures and output), and those buffers' bytes; it is told as the answer, 1 or 0 for whether a byte
+ * beside a buffer or of an input was touched, and the output. */
 #include <stdio.h>
 #include <stdlib.h>
 #include <string.h>
 
 #include "spoonwing.h"
 
-enum { GUARD = 64, BUFFERS = 4, OUTPUT = 3 };
+enum { GUARD = 64, BUFFERS = 4, OUTPUT = 3, NUMBERS = 2 + BUFFERS };
 
 struct buffer {
     uint8_t *room; /* guard, bytes, guard */
@@ -38,6 +39,12 @@ static struct buffer read_buffer(size_t length)
     return b;
 }
 
+/* What the entry is given. */
+static uint8_t *pointer(const struct buffer *b, int null_where_empty)
+{
+    return null_where_empty && b->length == 0 ? NULL : b->room + GUARD;
+}
+
 /* Whether a byte that no call may touch was touched: the guards, and of an input all. */
 static int touched(const struct buffer *b, int is_output)
 {
@@ -49,15 +56,16 @@ static int touched(const struct buffer *b, int is_output)
 
 int main(void)
 {
-    uint8_t head[20];
+    uint8_t head[4 * NUMBERS];
     while (fread(head, 1, sizeof head, stdin) == sizeof head) {
         struct buffer b[BUFFERS];
         for (int i = 0; i < BUFFERS; i++)
-            b[i] = read_buffer(number(head + 4 + 4 * i));
-        uint32_t answer = spoonwing_frame(b[0].room + GUARD, b[0].length, number(head),
-                                          b[1].room + GUARD, b[1].length,
-                                          b[2].room + GUARD, b[2].length,
-                                          b[3].room + GUARD, b[3].length);
+            b[i] = read_buffer(number(head + 8 + 4 * i));
+        int null = number(head + 4) != 0;
+        uint32_t answer = spoonwing_frame(pointer(&b[0], null), b[0].length, number(head),
+                                          pointer(&b[1], null), b[1].length,
+                                          pointer(&b[2], null), b[2].length,
+                                          pointer(&b[3], null), b[3].length);
         uint32_t spoilt = 0;
         for (int i = 0; i < BUFFERS; i++)
             spoilt |= (uint32_t)touched(&b[i], i == OUTPUT);

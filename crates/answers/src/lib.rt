@@ -1,5 +1,7 @@
 // The numbers that calls answer, by name: 01 "Answers by number". A refusal leaves what its row
 // there says.
+ghost use mathlib.Core.Path.{_≡_};
+ghost use Rattle.lists.specs.Choice.{orElse};
 
 // Done.
 pub const DONE: u8 = 0;
@@ -51,3 +53,13 @@ pub const NO_BAND: u8 = 15;
 
 // Host entry: the register image is not 208 bytes.
 pub const IMAGE_LENGTH: u8 = 16;
+
+// Of two refusals the earlier.
+pub fn or_else(first: u8, second: u8) -> u8
+    ensures { λ r. ⌜ r ≡ orElse first second ⌝ }
+{
+    if first == DONE {
+        return second;
+    }
+    first
+}

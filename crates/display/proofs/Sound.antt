@@ -9,39 +9,33 @@ use native.Mathlib.Omega.{arith}
 use borrow.Author.Tests.{ltb-true, eqb-true}
 use lib.Dec.{ltb, eqb}
 use lib.ListN.{length, length-set}
-use Rattle.lists.specs.Choice.{pick}
+use Rattle.lists.specs.Choice.{pick, choose}
 use Rattle.answers.specs.Answers.{done, notSelected, bankActive, bankFull, tablesLength}
 use Rattle.words.specs.Fields.{updateOf}
 use Rattle.words.specs.Check.{checkOf}
+use Rattle.words.proofs.CheckLaws.{check-accepted}
 use Rattle.tables.specs.Geometry.{tablesLen}
 use Rattle.tables.specs.Selection.{endOf, namedBy}
-use Rattle.lists.proofs.Choice.{lets-through, orElse-right}
+use Rattle.lists.proofs.Choice.{choose-keeps, lets-through, orElse-right}
 use Rattle.display.specs.declared.Display.{Display}
 use Rattle.display.specs.declared.Told.{Told}
-use Rattle.display.specs.State.{fresh, pickTold, withErrors, stepped, writeOf, selectOf, toggleOf, startOf}
-use Rattle.display.specs.Put.{putAnswer, pickState, putState, putOf}
+use Rattle.display.specs.State.{fresh, withErrors, stepped, writeOf, selectOf, toggleOf, startOf}
+use Rattle.display.specs.Put.{putAnswer, putState, putOf}
 use Rattle.display.specs.Paint.{fillTold, paintTold, frameTold}
-use Rattle.display.specs.Reached.{Reached, by-new, by-write, by-select, by-toggle, by-start, by-put, by-fill, by-paint, by-frame, Sound}
-
--- what holds of both arms holds of the choice
-pickTold-keeps : (P : Told → Type 0) (t : Bool) (x y : Told) → (t ≡ true → P x) → (t ≡ false → P y) → P (pickTold t x y)
-pickTold-keeps P true x y f g = f refl
-pickTold-keeps P false x y f g = g refl
-
-pickState-keeps : (P : Display → Type 0) (t : Bool) (x y : Display) → (t ≡ true → P x) → (t ≡ false → P y) → P (pickState t x y)
-pickState-keeps P true x y f g = f refl
-pickState-keeps P false x y f g = g refl
+use Rattle.display.specs.Reached.{Reached, by-new, by-write, by-select, by-toggle, by-start, by-put, by-fill}
+use Rattle.display.specs.Reached.{by-paint, by-frame, Sound}
 
 abbrev SoundTold : Told → Type 0
 SoundTold t = Sound (t .state)
 
 pub fresh-sound : Sound fresh
-fresh-sound = record { pending = refl; active = refl; accepted = inl refl; selection = omega arith; place = omega arith }
+fresh-sound =
+    record { pending = refl; active = refl; accepted = inl refl; selection = omega arith; place = omega arith }
 
 module _ (d : Display) (s : Sound d) where
   pub write-sound : (register value : ℕ) → Sound (writeOf d register value .state)
   write-sound register value =
-      pickTold-keeps SoundTold (ltb register 52) _ _
+      choose-keeps SoundTold (ltb register 52) _ _
       (λ h. record {
         pending = length-set (d .pending) register value ∙ s .pending;
         active = s .active;
@@ -53,7 +47,7 @@ module _ (d : Display) (s : Sound d) where
 
   pub select-sound : (selection : ℕ) → Sound (selectOf d selection .state)
   select-sound selection =
-      pickTold-keeps SoundTold (ltb selection 64) _ _
+      choose-keeps SoundTold (ltb selection 64) _ _
       (λ h. record {
         pending = s .pending;
         active = s .active;
@@ -63,22 +57,38 @@ module _ (d : Display) (s : Sound d) where
       })
       (λ h. s)
 
+  -- the error word is any: toggling, a full bank and painting change it alone
+  errors-sound : (errors : ℕ) → Sound (withErrors d errors)
+  errors-sound errors =
+      record {
+        pending = s .pending;
+        active = s .active;
+        accepted = s .accepted;
+        selection = s .selection;
+        place = s .place;
+      }
+
   pub toggle-sound : (bits : ℕ) → Sound (toggleOf d bits .state)
-  toggle-sound bits =
-      record { pending = s .pending; active = s .active; accepted = s .accepted; selection = s .selection; place = s .place }
+  toggle-sound bits = errors-sound _
 
   stepped-sound : Sound (stepped d)
   stepped-sound =
-      record { pending = s .pending; active = s .active; accepted = s .accepted; selection = s .selection; place = s .place }
+      record {
+        pending = s .pending;
+        active = s .active;
+        accepted = s .accepted;
+        selection = s .selection;
+        place = s .place;
+      }
 
   pub start-sound : Sound (startOf d .state)
   start-sound =
-      pickTold-keeps SoundTold (updateOf (d .pending)) _ _
-      (λ u. pickTold-keeps SoundTold (eqb (checkOf (d .pending)) done) _ _
+      choose-keeps SoundTold (updateOf (d .pending)) _ _
+      (λ u. choose-keeps SoundTold (eqb (checkOf (d .pending)) done) _ _
       (λ e. record {
         pending = s .pending;
         active = s .pending;
-        accepted = inr (eqb-true _ _ e);
+        accepted = inr (check-accepted _ (eqb-true _ _ e));
         selection = s .selection;
         place = s .place;
       })
@@ -86,19 +96,19 @@ module _ (d : Display) (s : Sound d) where
       (λ u. stepped-sound)
 
   -- a byte is stored below the table's end alone
-  below-end : (tables : List ℕ) → putAnswer d tables ≡ done → d .place < endOf (d .selection)
+  below-end : (tables : List ℕ) → putAnswer d tables ≡ done → d .selection .place < endOf (d .selection .number)
   unfolding putAnswer
   below-end tables e =
       let p = orElse-right (pick (eqb (length tables) tablesLen) done tablesLength) _ e in
-      let q = orElse-right (pick (d .selected) done notSelected) _ p in
-      let r = orElse-right (pick (namedBy (d .active) (d .selection)) bankActive done) _ q in
-      ltb-true _ _ (lets-through (ltb (d .place) (endOf (d .selection))) 4 r)
+      let q = orElse-right (pick (d .selection .made) done notSelected) _ p in
+      let r = orElse-right (pick (namedBy (d .active) (d .selection .number)) bankActive done) _ q in
+      ltb-true _ _ (lets-through (ltb (d .selection .place) (endOf (d .selection .number))) 4 r)
 
   pub put-sound : (tables : List ℕ) → Sound (putOf d tables .state)
   unfolding putOf putState
   put-sound tables =
-      pickState-keeps Sound (eqb (putAnswer d tables) done) _ _
-      (λ e. let h : d .place < endOf (d .selection) = below-end tables (eqb-true _ _ e) in
+      choose-keeps Sound (eqb (putAnswer d tables) done) _ _
+      (λ e. let h : d .selection .place < endOf (d .selection .number) = below-end tables (eqb-true _ _ e) in
       record {
         pending = s .pending;
         active = s .active;
@@ -106,14 +116,8 @@ module _ (d : Display) (s : Sound d) where
         selection = s .selection;
         place = omega arith;
       })
-      (λ e. pickState-keeps Sound (eqb (putAnswer d tables) bankFull) _ _
-      (λ f. record { pending = s .pending; active = s .active; accepted = s .accepted; selection = s .selection; place = s .place })
-      (λ f. s))
-
-  -- painting changes the error word alone
-  errors-sound : (errors : ℕ) → Sound (withErrors d errors)
-  errors-sound errors =
-      record { pending = s .pending; active = s .active; accepted = s .accepted; selection = s .selection; place = s .place }
+      (λ e. choose-keeps Sound (eqb (putAnswer d tables) bankFull) _ _
+      (λ f. errors-sound _) (λ f. s))
 
   pub fill-sound : (out : List ℕ) → Sound (fillTold d out .state)
   unfolding fillTold
@@ -125,7 +129,7 @@ module _ (d : Display) (s : Sound d) where
 
   pub frame-sound : (tables pictures out : List ℕ) → Sound (frameTold d tables pictures out .state)
   unfolding frameTold
-  frame-sound tables pictures out = errors-sound _
+  frame-sound tables pictures out = paint-sound 0 8 tables pictures out
 
 pub reached-sound : {d : Display} → Reached d → Sound d
 reached-sound by-new = fresh-sound

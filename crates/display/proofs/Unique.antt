@@ -1,9 +1,18 @@
--- No two outcomes meet a call's promise. `Post` is the call's own `ensures`, as the check reads it in
--- `src/lib.rt`: of the arguments i, the answer a or b, and the arguments at exit, e or f. An outcome is
--- the answer, with the state, and every byte of the buffer that the call writes. Assumes nothing.
-use mathlib.Core.Path.{_≡_}
+-- Each call's contract is the equation with its definitions, and so no two outcomes meet it: a law
+-- CALL-tie and a law CALL-unique of each. `Post` is the call's own `ensures`, as the check reads it in
+-- `src/lib.rt`, of the lifetimes κs, the arguments i, the answer a and the arguments at exit e. An outcome
+-- is the answer, with the state, and every byte of the buffer that the call writes. Assumes nothing.
+use Prim.Native.Nat.{ℕ}
+use mathlib.Core.List.{List}
 use denote.Ref.{now}
-use Rattle.lists.proofs.Choice.{meet}
+use Rattle.lists.specs.Call.{Call, callOf, Tied, OneOutcome}
+use Rattle.lists.proofs.Call.{itself, pair-is, tied-unique}
+use Rattle.words.specs.Fields.{widthOf, heightOf}
+use Rattle.display.specs.declared.Display.{Display}
+use Rattle.display.specs.declared.Told.{Told}
+use Rattle.display.specs.State.{fresh, writeOf, selectOf, toggleOf, startOf}
+use Rattle.display.specs.Put.{putOf, putTables}
+use Rattle.display.specs.Paint.{fillTold, fillBytes, paintTold, paintBytes, frameTold, frameBytes}
 use Rattle.display.proofs.Display.new.Reads as new
 use Rattle.display.proofs.Display.write.Reads as write
 use Rattle.display.proofs.Display.select.Reads as select
@@ -18,46 +27,136 @@ use Rattle.display.proofs.Display.frame_number.Reads as frame_number
 use Rattle.display.proofs.Display.output_width.Reads as output_width
 use Rattle.display.proofs.Display.output_height.Reads as output_height
 
-pub new-unique : (κs i a b e f : _) → new.Post κs i a e → new.Post κs i b f → a ≡ b
-new-unique κs i a b e f p q = meet p q
+-- ---- calls that write no buffer
 
-pub write-unique : (κs i a b e f : _) → write.Post κs i a e → write.Post κs i b f → a ≡ b
-write-unique κs i a b e f p q = meet p q
+abbrev pub newCall : Call (Unit {0}) Display
+newCall = callOf new.Post (λ κs i. tt) (λ κs a e. a)
 
-pub select-unique : (κs i a b e f : _) → select.Post κs i a e → select.Post κs i b f → a ≡ b
-select-unique κs i a b e f p q = meet p q
+pub new-tie : Tied newCall (λ x. fresh)
+new-tie = record { is = λ κs i a e. itself }
 
-pub toggle-unique : (κs i a b e f : _) → toggle.Post κs i a e → toggle.Post κs i b f → a ≡ b
-toggle-unique κs i a b e f p q = meet p q
+pub new-unique : OneOutcome newCall
+new-unique = tied-unique new-tie
 
-pub start-unique : (κs i a b e f : _) → start.Post κs i a e → start.Post κs i b f → a ≡ b
-start-unique κs i a b e f p q = meet p q
+-- the state, the register and the value
+abbrev pub writeCall : Call (Display × ℕ × ℕ) Told
+writeCall = callOf write.Post (λ κs i. (i .0, i .1 .0, i .1 .1 .0)) (λ κs a e. a)
 
--- the tables are the second argument
-pub put-unique : (κs i a b e f : _) → put.Post κs i a e → put.Post κs i b f → (a ≡ b) × (now (e .1 .0) ≡ now (f .1 .0))
-put-unique κs i a b e f p q = (meet (p .0) (q .0), meet (p .1) (q .1))
+pub write-tie : Tied writeCall (λ x. writeOf (x .0) (x .1) (x .2))
+write-tie = record { is = λ κs i a e. itself }
 
--- the output is the last one
-pub fill-unique : (κs i a b e f : _) → fill.Post κs i a e → fill.Post κs i b f → (a ≡ b) × (now (e .1 .0) ≡ now (f .1 .0))
-fill-unique κs i a b e f p q = (meet (p .0) (q .0), meet (p .1) (q .1))
+pub write-unique : OneOutcome writeCall
+write-unique = tied-unique write-tie
 
-pub paint-unique : (κs i a b e f : _) → paint.Post κs i a e → paint.Post κs i b f
-    → (a ≡ b) × (now (e .1 .1 .1 .1 .1 .0) ≡ now (f .1 .1 .1 .1 .1 .0))
-paint-unique κs i a b e f p q = (meet (p .0) (q .0), meet (p .1) (q .1))
+-- the state and the selection
+abbrev pub selectCall : Call (Display × ℕ) Told
+selectCall = callOf select.Post (λ κs i. (i .0, i .1 .0)) (λ κs a e. a)
 
-pub frame-unique : (κs i a b e f : _) → frame.Post κs i a e → frame.Post κs i b f
-    → (a ≡ b) × (now (e .1 .1 .1 .0) ≡ now (f .1 .1 .1 .0))
-frame-unique κs i a b e f p q = (meet (p .0) (q .0), meet (p .1) (q .1))
+pub select-tie : Tied selectCall (λ x. selectOf (x .0) (x .1))
+select-tie = record { is = λ κs i a e. itself }
 
--- the reads answer a number of the state
-pub error-word-unique : (κs i a b e f : _) → error_word.Post κs i a e → error_word.Post κs i b f → a ≡ b
-error-word-unique κs i a b e f p q = meet p q
+pub select-unique : OneOutcome selectCall
+select-unique = tied-unique select-tie
 
-pub frame-number-unique : (κs i a b e f : _) → frame_number.Post κs i a e → frame_number.Post κs i b f → a ≡ b
-frame-number-unique κs i a b e f p q = meet p q
+-- the state and the bits
+abbrev pub toggleCall : Call (Display × ℕ) Told
+toggleCall = callOf toggle.Post (λ κs i. (i .0, i .1 .0)) (λ κs a e. a)
 
-pub output-width-unique : (κs i a b e f : _) → output_width.Post κs i a e → output_width.Post κs i b f → a ≡ b
-output-width-unique κs i a b e f p q = meet p q
+pub toggle-tie : Tied toggleCall (λ x. toggleOf (x .0) (x .1))
+toggle-tie = record { is = λ κs i a e. itself }
 
-pub output-height-unique : (κs i a b e f : _) → output_height.Post κs i a e → output_height.Post κs i b f → a ≡ b
-output-height-unique κs i a b e f p q = meet p q
+pub toggle-unique : OneOutcome toggleCall
+toggle-unique = tied-unique toggle-tie
+
+abbrev pub startCall : Call Display Told
+startCall = callOf start.Post (λ κs i. i .0) (λ κs a e. a)
+
+pub start-tie : Tied startCall startOf
+start-tie = record { is = λ κs i a e. itself }
+
+pub start-unique : OneOutcome startCall
+start-unique = tied-unique start-tie
+
+-- ---- put: the state, the tables and the byte; the tables are left
+
+abbrev pub putCall : Call (Display × List ℕ × ℕ) (Told × List ℕ)
+putCall = callOf put.Post (λ κs i. (i .0, now (i .1 .0), i .1 .1 .0)) (λ κs a e. (a, now (e .1 .0)))
+
+pub put-tie : Tied putCall (λ x. (putOf (x .0) (x .1), putTables (x .0) (x .1) (x .2)))
+put-tie = record { is = λ κs i a e. pair-is }
+
+pub put-unique : OneOutcome putCall
+put-unique = tied-unique put-tie
+
+-- ---- painting: the state, a band's ends, tables, pictures, output; the output is left
+
+abbrev pub fillCall : Call (Display × List ℕ) (Told × List ℕ)
+fillCall = callOf fill.Post (λ κs i. (i .0, now (i .1 .0))) (λ κs a e. (a, now (e .1 .0)))
+
+pub fill-tie : Tied fillCall (λ x. (fillTold (x .0) (x .1), fillBytes (x .0) (x .1)))
+fill-tie = record { is = λ κs i a e. pair-is }
+
+pub fill-unique : OneOutcome fillCall
+fill-unique = tied-unique fill-tie
+
+abbrev pub paintCall : Call (Display × ℕ × ℕ × List ℕ × List ℕ × List ℕ) (Told × List ℕ)
+paintCall =
+    callOf paint.Post
+    (λ κs i. (i .0, i .1 .0, i .1 .1 .0, now (i .1 .1 .1 .0), now (i .1 .1 .1 .1 .0), now (i .1 .1 .1 .1 .1 .0)))
+    (λ κs a e. (a, now (e .1 .1 .1 .1 .1 .0)))
+
+pub paint-tie : Tied paintCall
+    (λ x. (paintTold (x .0) (x .1) (x .2) (x .3) (x .4) (x .5), paintBytes (x .0) (x .1) (x .2) (x .3) (x .4) (x .5)))
+paint-tie = record { is = λ κs i a e. pair-is }
+
+pub paint-unique : OneOutcome paintCall
+paint-unique = tied-unique paint-tie
+
+abbrev pub frameCall : Call (Display × List ℕ × List ℕ × List ℕ) (Told × List ℕ)
+frameCall =
+    callOf frame.Post (λ κs i. (i .0, now (i .1 .0), now (i .1 .1 .0), now (i .1 .1 .1 .0)))
+    (λ κs a e. (a, now (e .1 .1 .1 .0)))
+
+pub frame-tie : Tied frameCall (λ x. (frameTold (x .0) (x .1) (x .2) (x .3), frameBytes (x .0) (x .1) (x .2) (x .3)))
+frame-tie = record { is = λ κs i a e. pair-is }
+
+pub frame-unique : OneOutcome frameCall
+frame-unique = tied-unique frame-tie
+
+-- ---- the reads answer a number of the state
+
+abbrev pub errorWordCall : Call Display ℕ
+errorWordCall = callOf error_word.Post (λ κs i. i .0) (λ κs a e. a)
+
+pub error-word-tie : Tied errorWordCall (λ d. d .errors)
+error-word-tie = record { is = λ κs i a e. itself }
+
+pub error-word-unique : OneOutcome errorWordCall
+error-word-unique = tied-unique error-word-tie
+
+abbrev pub frameNumberCall : Call Display ℕ
+frameNumberCall = callOf frame_number.Post (λ κs i. i .0) (λ κs a e. a)
+
+pub frame-number-tie : Tied frameNumberCall (λ d. d .frame)
+frame-number-tie = record { is = λ κs i a e. itself }
+
+pub frame-number-unique : OneOutcome frameNumberCall
+frame-number-unique = tied-unique frame-number-tie
+
+abbrev pub outputWidthCall : Call Display ℕ
+outputWidthCall = callOf output_width.Post (λ κs i. i .0) (λ κs a e. a)
+
+pub output-width-tie : Tied outputWidthCall (λ d. widthOf (d .active))
+output-width-tie = record { is = λ κs i a e. itself }
+
+pub output-width-unique : OneOutcome outputWidthCall
+output-width-unique = tied-unique output-width-tie
+
+abbrev pub outputHeightCall : Call Display ℕ
+outputHeightCall = callOf output_height.Post (λ κs i. i .0) (λ κs a e. a)
+
+pub output-height-tie : Tied outputHeightCall (λ d. heightOf (d .active))
+output-height-tie = record { is = λ κs i a e. itself }
+
+pub output-height-unique : OneOutcome outputHeightCall
+output-height-unique = tied-unique output-height-tie

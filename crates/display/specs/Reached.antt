@@ -5,8 +5,7 @@ use mathlib.Core.Path.{_≡_}
 use mathlib.Core.Logic.{_⊎_}
 use mathlib.Core.List.{List}
 use lib.ListN.{length, replicate}
-use Rattle.answers.specs.Answers.{done}
-use Rattle.words.specs.Check.{checkOf}
+use Rattle.words.specs.Check.{Accepted}
 use Rattle.tables.specs.Selection.{endOf}
 use Rattle.display.specs.declared.Display.{Display}
 use Rattle.display.specs.State.{fresh, writeOf, selectOf, toggleOf, startOf}
@@ -23,14 +22,15 @@ pub data Reached : Display → Type 0 where
   by-start : {d : Display} → Reached d → Reached (startOf d .state)
   by-put : {d : Display} (tables : List ℕ) → Reached d → Reached (putOf d tables .state)
   by-fill : {d : Display} (out : List ℕ) → Reached d → Reached (fillTold d out .state)
-  by-paint : {d : Display} (a b : ℕ) (tables pictures out : List ℕ) → Reached d → Reached (paintTold d a b tables pictures out .state)
+  by-paint : {d : Display} (a b : ℕ) (tables pictures out : List ℕ) → Reached d
+      → Reached (paintTold d a b tables pictures out .state)
   by-frame : {d : Display} (tables pictures out : List ℕ) → Reached d → Reached (frameTold d tables pictures out .state)
 
--- there are 52 words of each; the active ones are all 0 or pass the check; the selection is in range,
+-- there are 52 words of each; the active ones are all 0 or accepted; the selection is in range,
 -- and the place at most at its table's end
 pub record Sound (d : Display) : Type 0 where
   pub pending : length (d .pending) ≡ 52
   pub active : length (d .active) ≡ 52
-  pub accepted : (d .active ≡ replicate 52 0) ⊎ (checkOf (d .active) ≡ done)
-  pub selection : d .selection < 64
-  pub place : d .place ≤ endOf (d .selection)
+  pub accepted : (d .active ≡ replicate 52 0) ⊎ Accepted (d .active)
+  pub selection : d .selection .number < 64
+  pub place : d .selection .place ≤ endOf (d .selection .number)

@@ -6,121 +6,72 @@ use mathlib.Core.Bool.{Bool, true, false}
 use lib.ListN.{set, replicate}
 use lib.Dec.{ltb, eqb}
 use lib.Bits.{bitXor}
+use Rattle.lists.specs.Choice.{choose}
 use Rattle.answers.specs.Answers.{done, noRegister, noSelection}
 use Rattle.words.specs.Fields.{updateOf}
 use Rattle.words.specs.Check.{checkOf}
 use Rattle.display.specs.declared.Display.{Display}
+use Rattle.display.specs.declared.Selection.{Selection}
 use Rattle.display.specs.declared.Told.{Told}
 
 -- ---- the state, and a part of it replaced
 
 -- "The state holds pending registers, active registers, frame number (32 bits), error word (32 bits),
--- and a table selection with its place." "A fresh state has all numbers 0 and nothing selected."
-abbrev pub fresh : Display
-fresh =
-    record {
-      pending = replicate 52 0;
-      active = replicate 52 0;
-      frame = 0;
-      errors = 0;
-      selected = false;
-      selection = 0;
-      place = 0;
-    }
+-- and a table selection with its place.": all parts of a state, in this order
+abbrev pub display : List ℕ → List ℕ → ℕ → ℕ → Selection → Display
+display pending active frame errors selection =
+    record { pending = pending; active = active; frame = frame; errors = errors; selection = selection }
 
+-- whether one was made, its number, and the place
+abbrev pub selectionOf : Bool → ℕ → ℕ → Selection
+selectionOf made number place = record { made = made; number = number; place = place }
+
+-- "A fresh state has all numbers 0 and nothing selected."
+abbrev pub fresh : Display
+fresh = display (replicate 52 0) (replicate 52 0) 0 0 (selectionOf false 0 0)
+
+-- the state with other pending words, and so on; all else as it was
 abbrev pub withPending : Display → List ℕ → Display
-withPending d words =
-    record {
-      pending = words;
-      active = d .active;
-      frame = d .frame;
-      errors = d .errors;
-      selected = d .selected;
-      selection = d .selection;
-      place = d .place;
-    }
+withPending d pending = display pending (d .active) (d .frame) (d .errors) (d .selection)
 
 abbrev pub withActive : Display → List ℕ → Display
-withActive d words =
-    record {
-      pending = d .pending;
-      active = words;
-      frame = d .frame;
-      errors = d .errors;
-      selected = d .selected;
-      selection = d .selection;
-      place = d .place;
-    }
+withActive d active = display (d .pending) active (d .frame) (d .errors) (d .selection)
 
 abbrev pub withFrame : Display → ℕ → Display
-withFrame d frame =
-    record {
-      pending = d .pending;
-      active = d .active;
-      frame = frame;
-      errors = d .errors;
-      selected = d .selected;
-      selection = d .selection;
-      place = d .place;
-    }
+withFrame d frame = display (d .pending) (d .active) frame (d .errors) (d .selection)
 
 abbrev pub withErrors : Display → ℕ → Display
-withErrors d errors =
-    record {
-      pending = d .pending;
-      active = d .active;
-      frame = d .frame;
-      errors = errors;
-      selected = d .selected;
-      selection = d .selection;
-      place = d .place;
-    }
+withErrors d errors = display (d .pending) (d .active) (d .frame) errors (d .selection)
 
-abbrev pub withSelection : Display → ℕ → Display
-withSelection d selection =
-    record {
-      pending = d .pending;
-      active = d .active;
-      frame = d .frame;
-      errors = d .errors;
-      selected = true;
-      selection = selection;
-      place = 0;
-    }
+abbrev pub withSelection : Display → Selection → Display
+withSelection d selection = display (d .pending) (d .active) (d .frame) (d .errors) selection
+
+-- a new selection begins at place 0; a put moves the place alone
+abbrev pub freshSelection : Display → ℕ → Display
+freshSelection d number = withSelection d (selectionOf true number 0)
 
 abbrev pub withPlace : Display → ℕ → Display
-withPlace d place =
-    record {
-      pending = d .pending;
-      active = d .active;
-      frame = d .frame;
-      errors = d .errors;
-      selected = d .selected;
-      selection = d .selection;
-      place = place;
-    }
+withPlace d place = withSelection d (selectionOf (d .selection .made) (d .selection .number) place)
 
+-- a state and an answer
 abbrev pub told : Display → ℕ → Told
 told d answer = record { state = d; answer = answer }
 
+-- at a frame number
 abbrev pub toldAt : Display → ℕ → ℕ → Told
 toldAt d frame answer = told (withFrame d frame) answer
-
-abbrev pub pickTold : Bool → Told → Told → Told
-pickTold true a b = a
-pickTold false a b = b
 
 -- ---- write, select, toggle
 
 -- "A write changes the pending word."; 1, "register above 51": "all unchanged"
 abbrev pub writeOf : Display → ℕ → ℕ → Told
 writeOf d register value =
-    pickTold (ltb register 52) (told (withPending d (set (d .pending) register value)) done) (told d noRegister)
+    choose (ltb register 52) (told (withPending d (set (d .pending) register value)) done) (told d noRegister)
 
 -- "Selecting sets the place to 0, also when it selects the same bank again."; 2, "above 63": "all
 -- unchanged"
 abbrev pub selectOf : Display → ℕ → Told
-selectOf d selection = pickTold (ltb selection 64) (told (withSelection d selection) done) (told d noSelection)
+selectOf d selection = choose (ltb selection 64) (told (freshSelection d selection) done) (told d noSelection)
 
 -- "Error bits are toggled by writing: each 1 clears a set bit and sets a clear one, all 32 of them
 -- (000); this is never refused."
@@ -138,7 +89,7 @@ stepped d = withFrame d ((d .frame + 1) % 2 ^ 32)
 -- written."; 7 to 11: "frame number stepped, else unchanged"
 abbrev pub startOf : Display → Told
 startOf d =
-    pickTold (updateOf (d .pending))
-    (pickTold (eqb (checkOf (d .pending)) done) (told (withActive (stepped d) (d .pending)) done)
+    choose (updateOf (d .pending))
+    (choose (eqb (checkOf (d .pending)) done) (told (withActive (stepped d) (d .pending)) done)
     (told (stepped d) (checkOf (d .pending))))
     (told (stepped d) done)

@@ -26,15 +26,20 @@ const REGISTERS: u32 = 52;
 
 const SELECTIONS: u32 = 64;
 
+// The table that puts go to, and the place of the next byte in it. Until one is made nothing is selected.
+pub struct Selection {
+    made: bool,
+    number: u32,
+    place: u32,
+}
+
 // Only `new` and the calls below make one: its fields are closed to other crates.
 pub struct Display {
     pending: [u32; 52],
     active: [u32; 52],
     frame: u32,
     errors: u32,
-    selected: bool,
-    selection: u32,
-    place: u32,
+    selection: Selection,
 }
 
 // What a call answers: the state afterwards, and 0 or the number of the refusal.
@@ -64,9 +69,11 @@ impl Display {
             active: [0; 52],
             frame: 0,
             errors: 0,
-            selected: false,
-            selection: 0,
-            place: 0,
+            selection: Selection {
+                made: false,
+                number: 0,
+                place: 0,
+            },
         }
     }
 
@@ -99,9 +106,12 @@ impl Display {
                 answer: NO_SELECTION,
             };
         }
-        self.selected = true;
-        self.selection = selection;
-        self.place = 0;
+        let chosen = Selection {
+            made: true,
+            number: selection,
+            place: 0,
+        };
+        self.selection = chosen;
         Told {
             state: self,
             answer: DONE,
@@ -151,24 +161,24 @@ impl Display {
                 answer: TABLES_LENGTH,
             };
         }
-        if !self.selected {
+        if !self.selection.made {
             return Told {
                 state: self,
                 answer: NOT_SELECTED,
             };
         }
-        let selection = self.selection;
+        let selection = self.selection.number;
         if is_named(&self.active, selection) {
             return Told {
                 state: self,
                 answer: BANK_ACTIVE,
             };
         }
-        let place = self.place;
+        let place = self.selection.place;
         if place < end_of(selection) {
             let at = first_byte_of(selection) + (place as usize);
             tables[at] = byte;
-            self.place = place + 1;
+            self.selection.place = place + 1;
             return Told {
                 state: self,
                 answer: DONE,
@@ -205,8 +215,10 @@ impl Display {
         pictures: &[u8],
         out: &mut [u8],
     ) -> Told
-        ensures state { λ r. ⌜ r ≡ paintTold self low high (now (tables .entry)) (now (pictures .entry)) (now (out .entry)) ⌝ }
-        ensures output { λ _. ⌜ now (out .exit) ≡ paintBytes self low high (now (tables .entry)) (now (pictures .entry)) (now (out .entry)) ⌝ }
+        ensures state { λ r. ⌜ r
+            ≡ paintTold self low high (now (tables .entry)) (now (pictures .entry)) (now (out .entry)) ⌝ }
+        ensures output { λ _. ⌜ now (out .exit)
+            ≡ paintBytes self low high (now (tables .entry)) (now (pictures .entry)) (now (out .entry)) ⌝ }
     {
         let painted = paint::band(
             &self.active,
@@ -228,7 +240,8 @@ impl Display {
     // Paints a whole frame: a fill, and the layers of every depth. Refused as `paint` is, before the fill.
     pub fn frame(mut self, tables: &[u8], pictures: &[u8], out: &mut [u8]) -> Told
         ensures state { λ r. ⌜ r ≡ frameTold self (now (tables .entry)) (now (pictures .entry)) (now (out .entry)) ⌝ }
-        ensures output { λ _. ⌜ now (out .exit) ≡ frameBytes self (now (tables .entry)) (now (pictures .entry)) (now (out .entry)) ⌝ }
+        ensures output { λ _. ⌜ now (out .exit)
+            ≡ frameBytes self (now (tables .entry)) (now (pictures .entry)) (now (out .entry)) ⌝ }
     {
         let painted = paint::frame(&self.active, self.frame, self.errors, tables, pictures, out);
         self.errors = painted.errors;
@@ -238,12 +251,15 @@ impl Display {
         }
     }
 
+    // Painting layer n from a list without END sets bit 4n, a put past the end of a table of controller g bit
+    // 4g+1; only `toggle` clears one.
     pub fn error_word(self) -> u32
         ensures { λ r. ⌜ r ≡ self .errors ⌝ }
     {
         self.errors
     }
 
+    // How many starts there were, modulo 2^32.
     pub fn frame_number(self) -> u32
         ensures { λ r. ⌜ r ≡ self .frame ⌝ }
     {

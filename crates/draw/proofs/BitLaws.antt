@@ -12,8 +12,8 @@ use lib.Dec.{leb, ltb, eqb}
 use borrow.Author.Tests.{leb-true, ltb-true, eqb-true}
 use Rattle.lists.specs.Choice.{both}
 use Rattle.lists.proofs.Choice.{split, both-left, both-right}
-use Rattle.draw.specs.Text.{pixelOf}
-use Rattle.draw.specs.Rows.{runAfter}
+use Rattle.draw.specs.Text.{glyphColumns, pixelOf}
+use Rattle.draw.specs.Engine.Rows.{runAfter}
 
 -- ---- a test that passes at each number below n
 
@@ -40,10 +40,10 @@ beside bits = bitAnd bits (carried bits)
 
 -- the columns from which and up to which the run goes
 abbrev pub runFrom : ℕ → ℕ
-runFrom bits = 8 - trailingZeros 64 (carried bits)
+runFrom bits = glyphColumns - trailingZeros 64 (carried bits)
 
 abbrev pub runTo : ℕ → ℕ
-runTo bits = 8 - trailingZeros 64 bits
+runTo bits = glyphColumns - trailingZeros 64 bits
 
 -- whether column j is 1 in the run, and beside it as in the bits that are left
 isOver : ℕ → ℕ → Bool
@@ -62,14 +62,16 @@ module _ (bits : ℕ) (some : bits ≡ 0 → ⊥) (byte : bits < 256) where
   unfolding every
   beside-lt = ltb-true _ _ (each-row (λ b. ltb (beside b) b) refl)
 
-  pub zeros-le : trailingZeros 64 bits ≤ 8
+  pub zeros-le : trailingZeros 64 bits ≤ glyphColumns
   unfolding every trailingZeros
-  zeros-le = leb-true _ _ (each-row (λ b. leb (trailingZeros 64 b) 8) refl)
+  zeros-le = leb-true _ _ (each-row (λ b. leb (trailingZeros 64 b) glyphColumns) refl)
 
-  pub zeros-carried-le : trailingZeros 64 (carried bits) ≤ 8
+  pub zeros-carried-le : trailingZeros 64 (carried bits) ≤ glyphColumns
   unfolding every trailingZeros
-  zeros-carried-le = leb-true _ _ (each-row (λ b. leb (trailingZeros 64 (carried b)) 8) refl)
+  zeros-carried-le = leb-true _ _ (each-row (λ b. leb (trailingZeros 64 (carried b)) glyphColumns) refl)
 
-  pub pixelOf-run : (j : ℕ) → j < 8 → pixelOf bits j ≡ runAfter (runFrom bits) (runTo bits) 1 j (pixelOf (beside bits) j)
+  pub pixelOf-run : (j : ℕ) → j < glyphColumns
+      → pixelOf bits j ≡ runAfter (runFrom bits) (runTo bits) 1 j (pixelOf (beside bits) j)
   unfolding every isOver trailingZeros pixelOf runAfter
-  pixelOf-run j h = eqb-true _ _ (every-at 8 (isOver bits) (each-row (λ b. every 8 (isOver b)) refl) j h)
+  pixelOf-run j h =
+      eqb-true _ _ (every-at glyphColumns (isOver bits) (each-row (λ b. every glyphColumns (isOver b)) refl) j h)

@@ -9,7 +9,7 @@ use borrow.Author.Tests.{le-leb, lt-leb, lt-ltb, le-ltb, ltb-true, ltb-false}
 use Rattle.lists.specs.Choice.{pick, either}
 use Rattle.lists.proofs.Choice.{split, both-none, either-any, either-left, either-right}
 use Rattle.draw.specs.Box.{near, drawn, boxAfter}
-use Rattle.draw.specs.Rows.{runAfter, wholeOf}
+use Rattle.draw.specs.Engine.Rows.{runAfter, wholeOf}
 use Rattle.draw.proofs.RunLaws.{run-in, run-left, run-right}
 
 -- the tests of a whole row and of a pixel are the same but for the last: the outlines meet, w, so
@@ -56,7 +56,8 @@ module _ (x0 x1 y0 y1 k colour v : ℕ) where
   -- ---- a row that the box has
 
   module _ (from : y0 ≤ v) (to : v ≤ y1) where
-    box-in : (u old : ℕ) → x0 ≤ u → u ≤ x1 → boxAfter x0 x1 y0 y1 k colour v u old ≡ pick (drawn x0 x1 y0 y1 k v u) colour old
+    box-in : (u old : ℕ) → x0 ≤ u → u ≤ x1
+        → boxAfter x0 x1 y0 y1 k colour v u old ≡ pick (drawn x0 x1 y0 y1 k v u) colour old
     unfolding boxAfter
     box-in u old a b = simp (le-leb y0 v from, le-leb v y1 to, le-leb x0 u a, le-leb u x1 b)
 
@@ -85,13 +86,16 @@ module _ (x0 x1 y0 y1 k colour v : ℕ) where
     box-far u old a b e l r =
         let w = ltb (x1 - x0) (2 * k) in
         let z : eqb k 0 ≡ false = either-left (eqb k 0) (either (near k y0 y1 v) w) e in
-        let t : near k y0 y1 v ≡ false = either-left (near k y0 y1 v) w (either-right (eqb k 0) (either (near k y0 y1 v) w) e) in
+        let t : near k y0 y1 v
+        ≡ false = either-left (near k y0 y1 v) w (either-right (eqb k 0) (either (near k y0 y1 v) w) e) in
         box-in u old a b ∙ rw (z, le-ltb (u - x0) k l, le-ltb (x1 - u) k r, t)
 
     pub box-sides : wholeOf k (v - y0) (y1 - v) (x1 - x0) ≡ false → 2 * k ≤ x1 - x0 → x0 ≤ x1 → (u old : ℕ)
-        → boxAfter x0 x1 y0 y1 k colour v u old ≡ runAfter (x1 + 1 - k) (x1 + 1) colour u (runAfter x0 (x0 + k) colour u old)
+        → boxAfter x0 x1 y0 y1 k colour v u old
+        ≡ runAfter (x1 + 1 - k) (x1 + 1) colour u (runAfter x0 (x0 + k) colour u old)
     box-sides e w h u old = ⊎-elim
-        (λ (l : u < x0). box-left u old l ∙ sym (run-left _ _ _ _ _ (omega arith) ∙ run-left x0 (x0 + k) colour u old l))
+        (λ (l : u < x0). box-left u old l
+        ∙ sym (run-left _ _ _ _ _ (omega arith) ∙ run-left x0 (x0 + k) colour u old l))
         (λ (g : x0 ≤ u). ⊎-elim
         (λ (l : u < x0 + k). box-near u old g (omega arith) (near-left k x0 x1 u (omega arith))
         ∙ sym (run-left _ _ _ _ _ (omega arith) ∙ run-in x0 (x0 + k) colour u old g l))
@@ -101,7 +105,8 @@ module _ (x0 x1 y0 y1 k colour v : ℕ) where
         (λ (q : x1 + 1 - k ≤ u). ⊎-elim
         (λ (l : u < x1 + 1). box-near u old g (omega arith) (near-right k x0 x1 u (omega arith))
         ∙ sym (run-in (x1 + 1 - k) (x1 + 1) colour u _ q l))
-        (λ (r : x1 + 1 ≤ u). box-right u old (omega arith) ∙ sym (run-right _ _ _ _ _ r ∙ run-right x0 (x0 + k) colour u old m))
+        (λ (r : x1 + 1 ≤ u). box-right u old (omega arith)
+        ∙ sym (run-right _ _ _ _ _ r ∙ run-right x0 (x0 + k) colour u old m))
         (split u (x1 + 1)))
         (split u (x1 + 1 - k)))
         (split u (x0 + k)))

@@ -9,7 +9,7 @@ use Rattle.lists.specs.Zero.{zeroFrom}
 use Rattle.lists.specs.Little.{littleAt}
 use Rattle.draw.specs.Instruction.{scaleOf}
 use Rattle.draw.specs.Box.{boxAfter, boxOf}
-use Rattle.draw.specs.Text.{shownOf, glyphRow, pixelOf, inked, rowAfter, stringPixel, textAfter, textOf}
+use Rattle.draw.specs.Text.{charactersOf, glyphRow, pixelOf, inked, rowAfter, stringPixel, textAfter, textOf}
 use Rattle.draw.specs.Drawing.{drawnBy, drawnTo, countOf, endedOf, indexAt}
 
 -- opcode op, x 2..5, string n, y 1..3, outline weight 0, box colour 5, text colour 7, scale 1
@@ -41,25 +41,30 @@ abbrev at : List ℕ → ℕ → ℕ → ℕ
 at ins u v = indexAt ins signs font v u
 
 -- weight 0 fills, and both ends are included
-pub fills : (at (one BOX 0) 3 2 ∷ at (one BOX 0) 5 3 ∷ at (one BOX 0) 2 1 ∷ at (one BOX 0) 5 4 ∷ []) ≡ (5 ∷ 5 ∷ 5 ∷ 0 ∷ [])
+pub fills : (at (one BOX 0) 3 2 ∷ at (one BOX 0) 5 3 ∷ at (one BOX 0) 2 1 ∷ at (one BOX 0) 5 4 ∷ [])
+    ≡ (5 ∷ 5 ∷ 5 ∷ 0 ∷ [])
 unfolding indexAt countOf zeroFrom drawnTo drawnBy boxOf boxAfter littleAt
 fills = refl
 
 -- rows 1 and 2 of the text: its first pixel is at x start, byte 31 leaves its cell, the character
 -- after the zero byte is not shown
 pub letters : (tab 30 (indexAt (one TEXT 0) signs font 1) ≡
-    (0 ∷ 0 ∷ 7 ∷ 0 ∷ 0 ∷ 0 ∷ 0 ∷ 0 ∷ 0 ∷ 7 ∷ 0 ∷ 0 ∷ 0 ∷ 0 ∷ 0 ∷ 0 ∷ 0 ∷ 0 ∷ 7 ∷ 0 ∷ 0 ∷ 0 ∷ 0 ∷ 0 ∷ 0 ∷ 7 ∷ 0 ∷ 0 ∷ 0 ∷ 0 ∷ []))
+    (0 ∷ 0 ∷ 7 ∷ 0 ∷ 0 ∷ 0 ∷ 0 ∷ 0 ∷ 0 ∷ 7 ∷ 0 ∷ 0 ∷ 0 ∷ 0 ∷ 0 ∷ 0 ∷ 0 ∷ 0 ∷ 7 ∷ 0 ∷ 0 ∷ 0 ∷ 0 ∷ 0 ∷ 0 ∷ 7 ∷ 0 ∷ 0 ∷ 0
+    ∷ 0 ∷ []))
     × ((at (one TEXT 0) 2 2 ∷ at (one TEXT 0) 3 2 ∷ []) ≡ (0 ∷ 7 ∷ []))
-unfolding tab indexAt countOf zeroFrom drawnTo drawnBy textOf textAfter rowAfter stringPixel shownOf inked pixelOf glyphRow scaleOf littleAt
+unfolding tab indexAt countOf zeroFrom drawnTo drawnBy textOf textAfter rowAfter stringPixel charactersOf inked pixelOf
+    glyphRow scaleOf littleAt
 letters = (refl, refl)
 
 -- opcode 14 draws text over its box; a string number above 7 takes only the text away
 pub both-drawn : (at (one BOTH 0) 2 1 ∷ at (one BOTH 0) 3 1 ∷ at (one BOTH 8) 2 1 ∷ []) ≡ (7 ∷ 5 ∷ 5 ∷ [])
-unfolding indexAt countOf zeroFrom drawnTo drawnBy boxOf boxAfter textOf textAfter rowAfter stringPixel shownOf inked pixelOf glyphRow scaleOf littleAt
+unfolding indexAt countOf zeroFrom drawnTo drawnBy boxOf boxAfter textOf textAfter rowAfter stringPixel charactersOf
+    inked pixelOf glyphRow scaleOf littleAt
 both-drawn = refl
 
 -- what stands after an END is not drawn
-pub ended : (at (one END 0 ++ one BOX 0) 2 1 ∷ countOf (one END 0 ++ one BOX 0) ∷ countOf (one BOX 0) ∷ []) ≡ (0 ∷ 0 ∷ 1 ∷ [])
+pub ended : (at (one END 0 ++ one BOX 0) 2 1 ∷ countOf (one END 0 ++ one BOX 0) ∷ countOf (one BOX 0) ∷ [])
+    ≡ (0 ∷ 0 ∷ 1 ∷ [])
 unfolding indexAt countOf zeroFrom drawnTo drawnBy boxOf boxAfter littleAt
 ended = refl
 

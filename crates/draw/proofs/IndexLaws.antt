@@ -8,7 +8,7 @@ use native.Mathlib.Omega.{arith}
 use Rattle.lists.specs.Choice.{pick}
 use Rattle.lists.proofs.Choice.{pick-keeps}
 use Rattle.lists.proofs.Zero.{zeroFrom-le}
-use Rattle.tables.specs.Geometry.{instructions}
+use Rattle.tables.specs.Geometry.{instructions, colours}
 use Rattle.draw.specs.Instruction.{opcode}
 use Rattle.draw.specs.Box.{boxAfter, boxOf}
 use Rattle.draw.specs.Text.{inked, rowAfter, textAfter, textOf}
@@ -20,30 +20,30 @@ countOf-le ins = zeroFrom-le instructions (opcode ins) 0
 
 -- ---- below 16
 
-pick-lt : (t : Bool) {x y : ℕ} → x < 16 → y < 16 → pick t x y < 16
-pick-lt t hx hy = pick-keeps (λ (m : ℕ). m < 16) t _ _ (λ _. hx) (λ _. hy)
+pick-lt : (t : Bool) {x y : ℕ} → x < colours → y < colours → pick t x y < colours
+pick-lt t hx hy = pick-keeps (λ (m : ℕ). m < colours) t _ _ (λ _. hx) (λ _. hy)
 
-mod-16 : (n : ℕ) → n % 16 < 16
-mod-16 n = omega arith
+mod-colours : (n : ℕ) → n % colours < colours
+mod-colours n = omega arith
 
-boxOf-lt : (ins : List ℕ) (k v u old : ℕ) → old < 16 → boxOf ins k v u old < 16
+boxOf-lt : (ins : List ℕ) (k v u old : ℕ) → old < colours → boxOf ins k v u old < colours
 unfolding boxOf boxAfter
-boxOf-lt ins k v u old h = search (pick-lt, mod-16) depth 8
+boxOf-lt ins k v u old h = search (pick-lt, mod-colours) depth 8
 
-textOf-lt : (ins strings font : List ℕ) (k v u old : ℕ) → old < 16 → textOf ins strings font k v u old < 16
+textOf-lt : (ins strings font : List ℕ) (k v u old : ℕ) → old < colours → textOf ins strings font k v u old < colours
 unfolding textOf textAfter rowAfter inked
-textOf-lt ins strings font k v u old h = search (pick-lt, mod-16) depth 8
+textOf-lt ins strings font k v u old h = search (pick-lt, mod-colours) depth 8
 
-drawnBy-lt : (ins strings font : List ℕ) (k v u old : ℕ) → old < 16 → drawnBy ins strings font k v u old < 16
+drawnBy-lt : (ins strings font : List ℕ) (k v u old : ℕ) → old < colours → drawnBy ins strings font k v u old < colours
 unfolding drawnBy
 drawnBy-lt ins strings font k v u old h = search (pick-lt, boxOf-lt, textOf-lt) depth 8
 
-pub drawnTo-lt : (ins strings font : List ℕ) (n v u : ℕ) → drawnTo ins strings font n v u < 16
+pub drawnTo-lt : (ins strings font : List ℕ) (n v u : ℕ) → drawnTo ins strings font n v u < colours
 unfolding drawnTo
 drawnTo-lt ins strings font zero v u = omega arith
 drawnTo-lt ins strings font (suc n) v u = drawnBy-lt ins strings font n v u _ (drawnTo-lt ins strings font n v u)
 
-pub indexAt-lt : (ins strings font : List ℕ) (v u : ℕ) → indexAt ins strings font v u < 16
+pub indexAt-lt : (ins strings font : List ℕ) (v u : ℕ) → indexAt ins strings font v u < colours
 unfolding indexAt
 indexAt-lt ins strings font v u = drawnTo-lt ins strings font (countOf ins) v u
 

@@ -5,4 +5,5 @@ mod BoxLaws
 mod TextLaws
 mod LineLaws
 pub mod IndexLaws
+pub mod Unique
 pub mod Figures

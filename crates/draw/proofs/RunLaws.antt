@@ -3,7 +3,7 @@ use mathlib.Core.Path.{_≡_}
 use Prim.Native.Nat.{ℕ, _≤_, _<_}
 use borrow.Author.Tests.{le-leb, lt-leb, lt-ltb, le-ltb}
 use Rattle.lists.proofs.Choice.{both-none}
-use Rattle.draw.specs.Rows.{runAfter}
+use Rattle.draw.specs.Engine.Rows.{runAfter}
 
 module _ (a e colour u old : ℕ) where
   pub run-in : a ≤ u → u < e → runAfter a e colour u old ≡ colour

@@ -11,8 +11,10 @@ use lib.Dec.{leb, ltb, eqb}
 use borrow.Author.Tests.{le-leb, lt-leb, lt-ltb, le-ltb, eq-eqb}
 use Rattle.lists.specs.Choice.{both}
 use Rattle.lists.proofs.Choice.{split, both-none, pick-keeps}
+use Rattle.tables.specs.Geometry as geometry
+use Rattle.draw.specs.Text.{glyphColumns, glyphRows, firstCharacter, lastCharacter}
 use Rattle.draw.specs.Text.{character, glyphRow, pixelOf, inked, rowAfter, stringPixel, stringAfter, textAfter}
-use Rattle.draw.specs.Rows.{runAfter}
+use Rattle.draw.specs.Engine.Rows.{runAfter}
 use Rattle.draw.proofs.RunLaws.{run-in, run-left, run-right}
 
 -- ---- a row of pixels
@@ -25,12 +27,15 @@ module _ (z : ℕ) (pos : 0 < z) (x colour : ℕ) where
   row-right : (p : ℕ → ℕ) (n u old : ℕ) → x + n * z ≤ u → rowAfter p n z x colour u old ≡ old
   unfolding rowAfter
   row-right p n u old h =
-      let q : n ≤ (u - x) / z = le-div-iff-mul-le {k = z} pos .1 (omega arith) in simp (le-ltb ((u - x) / z) n q, both-none)
+      let q : n ≤ (u - x) / z = le-div-iff-mul-le {k = z} pos .1 (omega arith) in
+      simp (le-ltb ((u - x) / z) n q, both-none)
 
-  row-in : (p : ℕ → ℕ) (n u old : ℕ) → x ≤ u → u < x + n * z → rowAfter p n z x colour u old ≡ inked (p ((u - x) / z)) colour old
+  row-in : (p : ℕ → ℕ) (n u old : ℕ) → x ≤ u → u < x + n * z
+      → rowAfter p n z x colour u old ≡ inked (p ((u - x) / z)) colour old
   unfolding rowAfter
   row-in p n u old a b =
-      let q : (u - x) / z < n = div-lt-iff-lt-mul {k = z} pos .1 (omega arith) in simp (le-leb x u a, lt-ltb ((u - x) / z) n q)
+      let q : (u - x) / z < n = div-lt-iff-lt-mul {k = z} pos .1 (omega arith) in
+      simp (le-leb x u a, lt-ltb ((u - x) / z) n q)
 
   pub row-none : (p : ℕ → ℕ) (u old : ℕ) → rowAfter p 0 z x colour u old ≡ old
   row-none p u old = ⊎-elim (row-left p 0 u old) (λ (g : x ≤ u). row-right p 0 u old (omega arith)) (split u x)
@@ -42,7 +47,8 @@ module _ (z : ℕ) (pos : 0 < z) (x colour : ℕ) where
       (λ _. simp (eq-eqb (p ((u - x) / z)) 0 (none _))) (λ _. refl)
 
 -- a pixels from x and then b more, q, from x + a * z
-pub row-more : (z : ℕ) → 0 < z → (x colour a b at : ℕ) (p q : ℕ → ℕ) → at ≡ x + a * z → ((j : ℕ) → j < b → q j ≡ p (a + j)) → (u old : ℕ)
+pub row-more : (z : ℕ) → 0 < z → (x colour a b at : ℕ) (p q : ℕ → ℕ) → at ≡ x + a * z
+    → ((j : ℕ) → j < b → q j ≡ p (a + j)) → (u old : ℕ)
     → rowAfter p (a + b) z x colour u old ≡ rowAfter q b z at colour u (rowAfter p a z x colour u old)
 row-more z pos x colour a b at p q e same u old =
     let m : (a + b) * z ≡ a * z + b * z = add-mul a b z in
@@ -58,7 +64,8 @@ row-more z pos x colour a b at p q e same u old =
     let d : u - x ≡ (u - at) + a * z = omega arith in
     let r : (u - x) / z ≡ a + (u - at) / z = ap (λ (n : ℕ). n / z) d ∙ add-mul-div-right (u - at) a pos ∙ omega arith in
     row-in z pos x colour p (a + b) u old g (omega arith) ∙ rw (r, ← same ((u - at) / z) j)
-    (sym (row-in z pos at colour q b u _ h l ∙ ap (inked (q ((u - at) / z)) colour) (row-right z pos x colour p a u old (omega arith)))))
+    (sym (row-in z pos at colour q b u _ h l
+    ∙ ap (inked (q ((u - at) / z)) colour) (row-right z pos x colour p a u old (omega arith)))))
     (λ (r : at + b * z ≤ u). row-right z pos x colour p (a + b) u old (omega arith)
     ∙ sym (row-right z pos at colour q b u _ r ∙ row-right z pos x colour p a u old (omega arith)))
     (split u (at + b * z)))
@@ -74,7 +81,8 @@ inked-same pixel colour = pick-keeps (λ (m : ℕ). m ≡ colour) (eqb pixel 0) 
 -- of a column: it is in the run, or beside it
 module _ (z : ℕ) (pos : 0 < z) (x colour a e u : ℕ) (from : x ≤ u) where
   inked-run : (q old : ℕ)
-      → inked (runAfter a e 1 ((u - x) / z) q) colour old ≡ inked q colour (runAfter (x + a * z) (x + e * z) colour u old)
+      → inked (runAfter a e 1 ((u - x) / z) q) colour old
+      ≡ inked q colour (runAfter (x + a * z) (x + e * z) colour u old)
   unfolding inked
   inked-run q old = ⊎-elim
       (λ (l : (u - x) / z < a).
@@ -84,7 +92,8 @@ module _ (z : ℕ) (pos : 0 < z) (x colour a e u : ℕ) (from : x ≤ u) where
       (λ (l : (u - x) / z < e).
       let h : a * z ≤ u - x = le-div-iff-mul-le {k = z} pos .0 g in
       let i : u - x < e * z = div-lt-iff-lt-mul {k = z} pos .0 l in
-      rw (run-in a e 1 _ q g l, run-in (x + a * z) (x + e * z) colour u old (omega arith) (omega arith)) (sym (inked-same q colour)))
+      rw (run-in a e 1 _ q g l, run-in (x + a * z) (x + e * z) colour u old (omega arith) (omega arith))
+      (sym (inked-same q colour)))
       (λ (r : e ≤ (u - x) / z).
       let h : e * z ≤ u - x = le-div-iff-mul-le {k = z} pos .0 r in
       rw (run-right a e 1 _ q r, run-right (x + a * z) (x + e * z) colour u old (omega arith)) refl)
@@ -92,7 +101,8 @@ module _ (z : ℕ) (pos : 0 < z) (x colour a e u : ℕ) (from : x ≤ u) where
       (split ((u - x) / z) a)
 
 -- the pixels p are a run from a to e over the pixels q
-pub row-run : (z : ℕ) → 0 < z → (x colour n a e : ℕ) (p q : ℕ → ℕ) → e ≤ n → ((j : ℕ) → j < n → p j ≡ runAfter a e 1 j (q j)) → (u old : ℕ)
+pub row-run : (z : ℕ) → 0 < z → (x colour n a e : ℕ) (p q : ℕ → ℕ) → e ≤ n
+    → ((j : ℕ) → j < n → p j ≡ runAfter a e 1 j (q j)) → (u old : ℕ)
     → rowAfter p n z x colour u old ≡ rowAfter q n z x colour u (runAfter (x + a * z) (x + e * z) colour u old)
 row-run z pos x colour n a e p q h same u old = ⊎-elim
     (λ (l : u < x). row-left z pos x colour p n u old l
@@ -111,11 +121,12 @@ row-run z pos x colour n a e p q h same u old = ⊎-elim
 
 -- ---- a string's pixels, a character at a time
 
-pub stringPixel-at : (strings font : List ℕ) (n row i j : ℕ) → j < 8
-    → pixelOf (glyphRow font (character strings n i) row) j ≡ stringPixel strings font n row (8 * i + j)
+pub stringPixel-at : (strings font : List ℕ) (n row i j : ℕ) → j < glyphColumns
+    → pixelOf (glyphRow font (character strings n i) row) j ≡ stringPixel strings font n row (glyphColumns * i + j)
 unfolding stringPixel
 stringPixel-at strings font n row i j h =
-    let a : (8 * i + j) / 8 ≡ i = omega arith in let b : (8 * i + j) % 8 ≡ j = omega arith in rw (a, b)
+    let a : (glyphColumns * i + j) / glyphColumns ≡ i = omega arith in
+    let b : (glyphColumns * i + j) % glyphColumns ≡ j = omega arith in rw (a, b)
 
 -- ---- the rows of a text
 
@@ -124,36 +135,38 @@ module _ (strings font : List ℕ) (n z x y colour v : ℕ) where
   unfolding textAfter
   text-above h u old = simp (lt-leb y v h, both-none)
 
-  pub text-below : 0 < z → y + 8 * z ≤ v → (u old : ℕ) → textAfter strings font n z x y colour v u old ≡ old
+  pub text-below : 0 < z → y + glyphRows * z ≤ v → (u old : ℕ) → textAfter strings font n z x y colour v u old ≡ old
   unfolding textAfter
   text-below pos h u old =
-      let q : 8 ≤ (v - y) / z = le-div-iff-mul-le {k = z} pos .1 (omega arith) in simp (le-ltb ((v - y) / z) 8 q, both-none)
+      let q : glyphRows ≤ (v - y) / z = le-div-iff-mul-le {k = z} pos .1 (omega arith) in
+      simp (le-ltb ((v - y) / z) glyphRows q, both-none)
 
-  pub text-number : 7 < n → (u old : ℕ) → textAfter strings font n z x y colour v u old ≡ old
+  pub text-number : geometry.strings ≤ n → (u old : ℕ) → textAfter strings font n z x y colour v u old ≡ old
   unfolding textAfter
-  text-number h u old = simp (le-ltb n 8 h)
+  text-number h u old = simp (le-ltb n geometry.strings h)
 
-  pub text-row : 0 < z → y ≤ v → v < y + 8 * z → n ≤ 7 → (u old : ℕ)
+  pub text-row : 0 < z → y ≤ v → v < y + glyphRows * z → n < geometry.strings → (u old : ℕ)
       → stringAfter strings font n ((v - y) / z) z x colour u old ≡ textAfter strings font n z x y colour v u old
   unfolding textAfter
   text-row pos a b c u old =
-      let q : (v - y) / z < 8 = div-lt-iff-lt-mul {k = z} pos .1 (omega arith) in
-      simp (lt-ltb n 8 (omega arith), le-leb y v a, lt-ltb ((v - y) / z) 8 q)
+      let q : (v - y) / z < glyphRows = div-lt-iff-lt-mul {k = z} pos .1 (omega arith) in
+      simp (lt-ltb n geometry.strings c, le-leb y v a, lt-ltb ((v - y) / z) glyphRows q)
 
-pub row-lt : (z y v : ℕ) → 0 < z → v < y + 8 * z → y ≤ v → (v - y) / z < 8
+pub row-lt : (z y v : ℕ) → 0 < z → v < y + glyphRows * z → y ≤ v → (v - y) / z < glyphRows
 row-lt z y v pos h g = div-lt-iff-lt-mul {k = z} pos .1 (omega arith)
 
 -- ---- the bits of a glyph's row
 
 module _ (font : List ℕ) (c row : ℕ) where
-  pub glyph-low : {n : ℕ} → n ≡ c → n < 32 → 0 ≡ glyphRow font c row
+  pub glyph-low : {n : ℕ} → n ≡ c → n < firstCharacter → 0 ≡ glyphRow font c row
   unfolding glyphRow
-  glyph-low e h = simp (lt-leb 32 c (omega arith))
+  glyph-low e h = simp (lt-leb firstCharacter c (omega arith))
 
-  pub glyph-high : {n : ℕ} → n ≡ c → 127 < n → 0 ≡ glyphRow font c row
+  pub glyph-high : {n : ℕ} → n ≡ c → lastCharacter < n → 0 ≡ glyphRow font c row
   unfolding glyphRow
-  glyph-high e h = simp (lt-leb c 127 (omega arith), both-none)
+  glyph-high e h = simp (lt-leb c lastCharacter (omega arith), both-none)
 
-  pub glyph-in : {n : ℕ} → n ≡ c → 32 ≤ n → n ≤ 127 → getD font (8 * (n - 32) + row) 0 ≡ glyphRow font c row
+  pub glyph-in : {n : ℕ} → n ≡ c → firstCharacter ≤ n → n ≤ lastCharacter
+      → getD font (geometry.glyphLen * (n - firstCharacter) + row) 0 ≡ glyphRow font c row
   unfolding glyphRow
-  glyph-in e a b = rw e (simp (le-leb 32 c (omega arith), le-leb c 127 (omega arith)))
+  glyph-in e a b = rw e (simp (le-leb firstCharacter c (omega arith), le-leb c lastCharacter (omega arith)))

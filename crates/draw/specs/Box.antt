@@ -20,6 +20,7 @@ near k start end p = either (ltb (p - start) k) (ltb (end - p) k)
 abbrev pub drawn : ℕ → ℕ → ℕ → ℕ → ℕ → ℕ → ℕ → Bool
 drawn x0 x1 y0 y1 k v u = either (eqb k 0) (either (near k x0 x1 u) (near k y0 y1 v))
 
+-- a box of a colour, at row v and column u
 unfoldable pub boxAfter : ℕ → ℕ → ℕ → ℕ → ℕ → ℕ → ℕ → ℕ → ℕ → ℕ
 boxAfter x0 x1 y0 y1 k colour v u old =
     pick (both (inside x0 x1 u) (both (inside y0 y1 v) (drawn x0 x1 y0 y1 k v u))) colour old

@@ -1,10 +1,8 @@
 -- An instruction list and the colour index at (u, v) after it: 01 "Graphics layers". "Coordinates u, v
 -- count from the layer's corner (house)." Assumes nothing.
-use mathlib.Core.Path.{_≡_}
-use Prim.Native.Nat.{ℕ, zero, suc, _*_}
+use Prim.Native.Nat.{ℕ, zero, suc}
 use mathlib.Core.Bool.{Bool}
 use mathlib.Core.List.{List}
-use lib.ListN.{length}
 use lib.Dec.{ltb, eqb}
 use Rattle.lists.specs.Choice.{pick}
 use Rattle.lists.specs.Zero.{zeroFrom}
@@ -13,12 +11,6 @@ use Rattle.draw.specs.Instruction.{opcode}
 use Rattle.draw.specs.Box.{boxOf}
 use Rattle.draw.specs.Text.{textOf}
 use Rattle.draw.specs.declared.ListEnd.{ListEnd}
-
--- the three tables, each as long as 01 "Tables" has it
-pub record Tables (ins strings font : List ℕ) : Type 0 where
-  pub ins-long : length ins ≡ geometry.instructions * geometry.instructionLen
-  pub strings-long : length strings ≡ geometry.strings * geometry.stringLen
-  pub font-long : length font ≡ geometry.glyphs * geometry.glyphLen
 
 module _ (ins strings font : List ℕ) where
   -- 01 "Graphics layers": "10 is a box, 12 text, 14 a box and then text over it. All others do nothing,
@@ -42,8 +34,9 @@ countOf ins = zeroFrom geometry.instructions (opcode ins) 0
 unfoldable pub endedOf : List ℕ → Bool
 endedOf ins = ltb (countOf ins) geometry.instructions
 
-abbrev pub endOf : List ℕ → ListEnd
-endOf ins = record { found = endedOf ins; count = countOf ins }
+-- both, as `list_end` answers
+abbrev pub listEnd : List ℕ → ListEnd
+listEnd ins = record { found = endedOf ins; count = countOf ins }
 
 -- the colour index at (u, v), by rows
 unfoldable pub indexAt : List ℕ → List ℕ → List ℕ → ℕ → ℕ → ℕ

@@ -1,13 +1,14 @@
 // A row of a box, as one run or as one at each side.
 ghost use mathlib.Core.Path.{_≡_};
-ghost use Prim.Native.Nat.{_*_, _≤_, _<_};
+ghost use Prim.Native.Nat.{_≤_, _<_};
 ghost use lib.ListN.{length};
 ghost use Rattle.lists.specs.Tab.{each};
-ghost use Rattle.tables.specs.Geometry.{instructions, instructionLen};
+ghost use Rattle.tables.specs.Geometry.{instructions, listLen};
 ghost use Rattle.draw.specs.Box.{boxAfter, boxOf};
-ghost use Rattle.draw.specs.Rows.{wholeOf};
+ghost use Rattle.draw.specs.Engine.Rows.{wholeOf};
+use crate::instruction::word_of;
 use crate::runs::fill_run;
-use numbers::word;
+use tables::COLOUR_COUNT;
 
 // Whether the row that many places from the upper and the lower side is one run.
 fn is_whole(weight: usize, above: usize, below: usize, across: usize) -> bool
@@ -53,10 +54,10 @@ fn box_row(
 
 // Row v of the box of instruction k. A row beside the box costs one word and two tests.
 pub fn draw_box(line: &mut [u8], ins: &[u8], k: usize, v: usize)
-    requires { ⌜ (length (now ins) ≡ instructions * instructionLen) × (k < instructions) ⌝ }
+    requires { ⌜ (length (now ins) ≡ listLen) × (k < instructions) ⌝ }
     ensures { λ _. ⌜ now (line .exit) ≡ each (boxOf (now (ins .entry)) k v) (now (line .entry)) ⌝ }
 {
-    let w2 = word(ins, 16 * k + 8);
+    let w2 = word_of(ins, k, 2);
     let y0 = w2 % 4096;
     let y1 = w2 / 4096 % 4096;
     if v < y0 {
@@ -65,10 +66,19 @@ pub fn draw_box(line: &mut [u8], ins: &[u8], k: usize, v: usize)
     if y1 < v {
         return;
     }
-    let w0 = word(ins, 16 * k);
-    let w3 = word(ins, 16 * k + 12);
+    let w0 = word_of(ins, k, 0);
+    let w3 = word_of(ins, k, 3);
     let x0 = w0 % 4096;
     let x1 = w0 / 4096 % 4096;
     let weight = w2 / 16777216 % 16;
-    box_row(line, x0, x1, y0, y1, weight, (w3 % 256 % 16) as u8, v);
+    box_row(
+        line,
+        x0,
+        x1,
+        y0,
+        y1,
+        weight,
+        (w3 % 256 % COLOUR_COUNT) as u8,
+        v,
+    );
 }

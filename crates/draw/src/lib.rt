@@ -1,23 +1,22 @@
 // A graphics layer's instruction list, drawn into one line of colour indexes. Nothing here knows of
 // colours or frames.
 ghost use mathlib.Core.Path.{_≡_};
-ghost use Prim.Native.Nat.{_*_, _<_};
+ghost use Prim.Native.Nat.{_<_};
 ghost use lib.ListN.{length};
 ghost use Rattle.lists.specs.Tab.{tab, each};
-ghost use Rattle.tables.specs.Geometry as geometry;
-ghost use Rattle.draw.specs.Drawing.{Tables, drawnBy, countOf, endOf, indexAt};
+ghost use Rattle.tables.specs.Geometry.{instructions, listLen};
+ghost use Rattle.draw.specs.Drawing.{drawnBy, countOf, listEnd, indexAt};
+ghost use Rattle.draw.specs.Engine.Tables.{Tables};
 use crate::boxes::draw_box;
 use crate::instruction::opcode;
 use crate::runs::fill_run;
 use crate::text::draw_text;
+use tables::INSTRUCTION_COUNT;
 
 mod boxes;
 mod instruction;
 mod runs;
 mod text;
-
-// How many instructions a list has in all.
-const INSTRUCTIONS: usize = 48;
 
 // Whether a list has an END, and how many instructions stand before it.
 pub struct ListEnd {
@@ -27,8 +26,9 @@ pub struct ListEnd {
 
 // Row v of instruction k, over what the line holds.
 fn draw_one(line: &mut [u8], ins: &[u8], strings: &[u8], font: &[u8], k: usize, v: usize)
-    requires { ⌜ Tables (now ins) (now strings) (now font) × (k < geometry.instructions) ⌝ }
-    ensures { λ _. ⌜ now (line .exit) ≡ each (drawnBy (now (ins .entry)) (now (strings .entry)) (now (font .entry)) k v) (now (line .entry)) ⌝ }
+    requires { ⌜ Tables (now ins) (now strings) (now font) × (k < instructions) ⌝ }
+    ensures { λ _. ⌜ now (line .exit)
+        ≡ each (drawnBy (now (ins .entry)) (now (strings .entry)) (now (font .entry)) k v) (now (line .entry)) ⌝ }
 {
     match opcode(ins, k) {
         10 => draw_box(line, ins, k, v),
@@ -44,12 +44,12 @@ fn draw_one(line: &mut [u8], ins: &[u8], strings: &[u8], font: &[u8], k: usize, 
 
 // The end of an instruction list: its first END, or the end of all 48.
 pub fn list_end(ins: &[u8]) -> ListEnd
-    requires { ⌜ length (now ins) ≡ geometry.instructions * geometry.instructionLen ⌝ }
-    ensures { λ r. ⌜ r ≡ endOf (now (ins .entry)) ⌝ }
+    requires { ⌜ length (now ins) ≡ listLen ⌝ }
+    ensures { λ r. ⌜ r ≡ listEnd (now (ins .entry)) ⌝ }
 {
     let mut k = 0;
     let found = loop {
-        if INSTRUCTIONS <= k {
+        if INSTRUCTION_COUNT <= k {
             break false;
         }
         if opcode(ins, k) == 0 {
@@ -67,7 +67,8 @@ pub fn list_end(ins: &[u8]) -> ListEnd
 // that stand before the list's end.
 pub fn draw_line(line: &mut [u8], ins: &[u8], strings: &[u8], font: &[u8], count: usize, v: usize)
     requires { ⌜ Tables (now ins) (now strings) (now font) × (count ≡ countOf (now ins)) ⌝ }
-    ensures { λ _. ⌜ now (line .exit) ≡ tab (length (now (line .entry))) (indexAt (now (ins .entry)) (now (strings .entry)) (now (font .entry)) v) ⌝ }
+    ensures { λ _. ⌜ now (line .exit)
+        ≡ tab (length (now (line .entry))) (indexAt (now (ins .entry)) (now (strings .entry)) (now (font .entry)) v) ⌝ }
 {
     fill_run(line, 0, line.len(), 0);
     let mut k = 0;

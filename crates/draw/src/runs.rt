@@ -1,7 +1,7 @@
 // A run of one colour in a line.
 ghost use mathlib.Core.Path.{_≡_};
 ghost use Rattle.lists.specs.Tab.{each};
-ghost use Rattle.draw.specs.Rows.{runAfter};
+ghost use Rattle.draw.specs.Engine.Rows.{runAfter};
 use numbers::least;
 
 // The colour at each place from a up to e, as far as the line goes.

@@ -15,42 +15,51 @@ use Rattle.answers.specs.Answers.{done, emptyScreen, noSize, imageLength}
 use Rattle.words.specs.Fields.{widthOf, heightOf}
 use Rattle.words.specs.Check.{reservedAt, screenOf, checkOf}
 use Rattle.paint.specs.declared.Painted.{Painted}
-use Rattle.paint.specs.Frame.{sizeRefusal, outputRefusal, tablesRefusal, picturesRefusal, paintRefusal, refusalOf, frameAfter, frameTold, paintTold}
-use Rattle.host.specs.Host.{wordAt, wordsOf, sceneIn, hostAnswer, hostOutput}
+use Rattle.paint.specs.Painted.{answered}
+use Rattle.frames.specs.Frame.{sizeRefusal, outputRefusal, tablesRefusal, picturesRefusal, paintRefusal, refusalOf}
+use Rattle.frames.specs.Frame.{frameAfter}
+use Rattle.host.specs.Host.{imageWord, wordsOf, sceneIn, hostAnswer, hostOutput}
 
 -- ---- the words
 
-pub words-none : (image : List ℕ) → Upto (replicate 52 0) (replicate 52 0) (wordAt image) 0
-words-none image = upto-none (replicate 52 0) (wordAt image)
+pub words-none : (image : List ℕ) → Upto (replicate 52 0) (replicate 52 0) (imageWord image) 0
+words-none image = upto-none (replicate 52 0) (imageWord image)
 
-pub words-all : (image words : List ℕ) (i : ℕ) → i ≤ 52 → 52 ≤ i → Upto words (replicate 52 0) (wordAt image) i → words ≡ wordsOf image
+pub words-all : (image words : List ℕ) (i : ℕ) → i ≤ 52 → 52 ≤ i → Upto words (replicate 52 0) (imageWord image) i
+    → words ≡ wordsOf image
 unfolding wordsOf
 words-all image words i p q u = upto-done u (omega arith)
 
 -- ---- the cases
 
 module _ (image : List ℕ) (frame : ℕ) (tables pictures out : List ℕ) where
-  pub host-length : (length image ≡ 208 → ⊥) → (imageLength ≡ hostAnswer image frame tables pictures out) × (out ≡ hostOutput image frame tables pictures out)
+  pub host-length : (length image ≡ 208 → ⊥)
+      → (imageLength ≡ hostAnswer image frame tables pictures out) × (out ≡ hostOutput image frame tables pictures out)
   unfolding hostOutput hostAnswer
   host-length ne = (rw (ne-eqb _ _ ne), rw (ne-eqb _ _ ne))
 
   module _ (long : length image ≡ 208) where
-    checked : (a : ℕ) → a ≡ checkOf (wordsOf image) → hostAnswer image frame tables pictures out ≡ orElse a (refusalOf (sceneIn image frame tables pictures) 0 8 out)
+    checked : (a : ℕ) → a ≡ checkOf (wordsOf image)
+        → hostAnswer image frame tables pictures out
+        ≡ orElse a (refusalOf (sceneIn image frame tables pictures) 0 8 out)
     unfolding hostAnswer
     checked a e = rw (eq-eqb _ _ long, ← e)
 
-    pub host-refused : (a : ℕ) → a ≡ checkOf (wordsOf image) → (a ≡ 0 → ⊥) → (a ≡ hostAnswer image frame tables pictures out) × (out ≡ hostOutput image frame tables pictures out)
+    pub host-refused : (a : ℕ) → a ≡ checkOf (wordsOf image) → (a ≡ 0 → ⊥)
+        → (a ≡ hostAnswer image frame tables pictures out) × (out ≡ hostOutput image frame tables pictures out)
     unfolding hostOutput
     host-refused a e ne =
         let q : hostAnswer image frame tables pictures out ≡ a = checked a e ∙ rw (ne-eqb a 0 ne) in
         (sym q, rw (q, ne-eqb a 0 ne))
 
     pub host-painted : (a : ℕ) (p : Painted) (out′ : List ℕ) → a ≡ checkOf (wordsOf image) → a ≡ 0
-        → p ≡ frameTold (sceneIn image frame tables pictures) out 0 → out′ ≡ frameAfter (sceneIn image frame tables pictures) out
+        → (errors : ℕ) → p ≡ answered (refusalOf (sceneIn image frame tables pictures) 0 8 out) errors
+        → out′ ≡ frameAfter (sceneIn image frame tables pictures) out
         → (p .answer ≡ hostAnswer image frame tables pictures out) × (out′ ≡ hostOutput image frame tables pictures out)
-    unfolding hostOutput frameTold paintTold frameAfter
-    host-painted a p out′ e z f g =
-        let q : hostAnswer image frame tables pictures out ≡ refusalOf (sceneIn image frame tables pictures) 0 8 out = checked a e ∙ rw (eq-eqb a 0 z) in
+    unfolding hostOutput frameAfter
+    host-painted a p out′ e z errors f g =
+        let q : hostAnswer image frame tables pictures out
+        ≡ refusalOf (sceneIn image frame tables pictures) 0 8 out = checked a e ∙ rw (eq-eqb a 0 z) in
         (ap (λ (r : Painted). r .answer) f ∙ sym q, rw q g)
 
 -- ---- "Order 16, 7, 8, 9 and 10, 11, 13, 6, 14.": after the check a frame is refused by 13, 6, 14 alone
@@ -58,16 +67,20 @@ module _ (image : List ℕ) (frame : ℕ) (tables pictures out : List ℕ) where
 -- words that pass have a size
 pub check-sized : (w : List ℕ) → checkOf w ≡ 0 → sizeRefusal w ≡ 0
 unfolding checkOf screenOf
-check-sized w e = sized (eqb (widthOf w) 0) (eqb (heightOf w) 0) (orElse-left (screenOf w) _ (orElse-right (firstOf 52 (reservedAt w)) _ e))
+check-sized w e =
+    sized (eqb (widthOf w) 0) (eqb (heightOf w) 0)
+    (orElse-left (screenOf w) _ (orElse-right (firstOf 52 (reservedAt w)) _ e))
   where
     sized : (s t : Bool) → pick s emptyScreen (pick t emptyScreen done) ≡ 0 → pick (either s t) noSize done ≡ 0
     sized true t e = absurd (let z : ⊥ = omega arith in z)
     sized false true e = absurd (let z : ⊥ = omega arith in z)
     sized false false e = refl
 
-pub host-order : (image : List ℕ) (frame : ℕ) (tables pictures out : List ℕ) → length image ≡ 208 → checkOf (wordsOf image) ≡ 0
+pub host-order : (image : List ℕ) (frame : ℕ) (tables pictures out : List ℕ) → length image ≡ 208
+    → checkOf (wordsOf image) ≡ 0
     → hostAnswer image frame tables pictures out
-    ≡ orElse (outputRefusal (wordsOf image) (length out)) (orElse (tablesRefusal (length tables)) (picturesRefusal (wordsOf image) (length pictures)))
+    ≡ orElse (outputRefusal (wordsOf image) (length out))
+    (orElse (tablesRefusal (length tables)) (picturesRefusal (wordsOf image) (length pictures)))
 unfolding paintRefusal
 host-order image frame tables pictures out long e =
     checked image frame tables pictures out long 0 (sym e) ∙ rw (check-sized (wordsOf image) e)

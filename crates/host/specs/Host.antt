@@ -3,21 +3,21 @@ use Prim.Native.Nat.{ℕ, _*_}
 use mathlib.Core.List.{List}
 use lib.ListN.{length}
 use lib.Dec.{eqb}
-use Rattle.lists.specs.Choice.{pick, pickList, orElse}
+use Rattle.lists.specs.Choice.{pick, choose, orElse}
 use Rattle.lists.specs.Little.{littleAt}
 use Rattle.lists.specs.Tab.{tab}
 use Rattle.answers.specs.Answers.{done, imageLength}
 use Rattle.words.specs.Check.{checkOf}
-use Rattle.paint.specs.Scene.{Scene, sceneOf}
-use Rattle.paint.specs.Frame.{refusalOf, frameOf}
+use Rattle.frames.specs.Scene.{Scene, sceneOf}
+use Rattle.frames.specs.Frame.{refusalOf, frameOf}
 
 -- "The C host calls one exported entry with a 208-byte register image (52 little-endian words), frame
 -- number, tables, pictures, output."
-abbrev pub wordAt : List ℕ → ℕ → ℕ
-wordAt image i = littleAt image (4 * i)
+abbrev pub imageWord : List ℕ → ℕ → ℕ
+imageWord image i = littleAt image (4 * i)
 
 unfoldable pub wordsOf : List ℕ → List ℕ
-wordsOf image = tab 52 (wordAt image)
+wordsOf image = tab 52 (imageWord image)
 
 -- what it paints from: the image's words for the active ones, and the frame number as given
 abbrev pub sceneIn : List ℕ → ℕ → List ℕ → List ℕ → Scene
@@ -35,4 +35,4 @@ hostAnswer image frame tables pictures out =
 -- output unchanged."
 unfoldable pub hostOutput : List ℕ → ℕ → List ℕ → List ℕ → List ℕ → List ℕ
 hostOutput image frame tables pictures out =
-    pickList (eqb (hostAnswer image frame tables pictures out) done) (frameOf (sceneIn image frame tables pictures)) out
+    choose (eqb (hostAnswer image frame tables pictures out) done) (frameOf (sceneIn image frame tables pictures)) out

@@ -33,8 +33,10 @@ pub extern "C" fn spoonwing_frame(
     pictures: &[u8],
     output: &mut [u8],
 ) -> u32
-    ensures answer { λ r. ⌜ r ≡ hostAnswer (now (image .entry)) frame (now (tables .entry)) (now (pictures .entry)) (now (output .entry)) ⌝ }
-    ensures output { λ _. ⌜ now (output .exit) ≡ hostOutput (now (image .entry)) frame (now (tables .entry)) (now (pictures .entry)) (now (output .entry)) ⌝ }
+    ensures answer { λ r. ⌜ r
+        ≡ hostAnswer (now (image .entry)) frame (now (tables .entry)) (now (pictures .entry)) (now (output .entry)) ⌝ }
+    ensures output { λ _. ⌜ now (output .exit)
+        ≡ hostOutput (now (image .entry)) frame (now (tables .entry)) (now (pictures .entry)) (now (output .entry)) ⌝ }
 {
     if image.len() != IMAGE_LEN {
         return IMAGE_LENGTH as u32;

@@ -6,6 +6,9 @@ use mathlib.Core.Logic.{⊎-elim}
 use mathlib.Core.List.{List}
 use Prim.Native.Nat.{ℕ, _+_, _*_, _≤_, _<_}
 use native.Mathlib.Omega.{arith}
+use mir.Syntax.{w8}
+use borrow.Table.Referent.{fInt}
+use borrow.Rule.Slice.Know.{Fit}
 use lib.ListN.{getD, take, drop, length-take, List·getD-eq-default}
 use Rattle.lists.proofs.Choice.{split, pick-keeps}
 use Rattle.lists.proofs.Run.{run-keeps, run-after}
@@ -15,35 +18,46 @@ use Rattle.mix.proofs.FadeLaws.{fadeOf-le}
 use Rattle.words.specs.Fields.{groundOf, layerOf}
 use Rattle.tables.specs.Geometry.{colourLen, kindLen}
 use Rattle.tables.specs.Selection.{activeAt}
-use Rattle.paint.specs.Scene.{Scene}
-use Rattle.paint.specs.Pixel.{bankOf, indexOf, graphicsAt, pictureAt, ownAt, alphaAt, covers, overAt}
-use Rattle.paint.specs.Band.{pixelAt}
-use Rattle.laws.specs.Painting.{Ready, OnScreen, channelAt, ownOver, OfBytes, shows, leastStep, greatestStep, leastAt, greatestAt}
+use Rattle.frames.specs.Scene.{Scene}
+use Rattle.frames.specs.Pixel.{bankBytes, colourIndex, graphicsAt, pictureAt, ownAt, alphaAt, covers, overAt}
+use Rattle.frames.specs.Band.{pixelAt}
+use Rattle.laws.specs.Painting.{Ready, OnScreen, channelAt, ownOver, AreBytes, OfBytes, shows, leastStep}
+use Rattle.laws.specs.Painting.{greatestStep, leastAt, greatestAt}
 use Rattle.laws.proofs.LayerLaws.{value-le, target-le}
 use Rattle.laws.proofs.Bands.{bandBy-keeps}
 use Rattle.laws.proofs.Pixels.{channelAt-is}
 
+-- what the check knows of a lent `&[u8]`, that each of its entries fits 8 bits, is that it is of bytes
+pub lent-bytes : (l : List ℕ) → Fit (fInt w8) 0 l → AreBytes l
+lent-bytes l fit i = fit i .fits
+
+byte-le : (l : List ℕ) → AreBytes l → (i : ℕ) → getD l i 0 ≤ 255
+byte-le l b i = omega (arith, b i)
+
 -- a part of a list of bytes is one
-part-le : (l : List ℕ) (o n i : ℕ) → ((k : ℕ) → getD l k 0 ≤ 255) → getD (take n (drop o l)) i 0 ≤ 255
+part-le : (l : List ℕ) (o n i : ℕ) → AreBytes l → getD (take n (drop o l)) i 0 ≤ 255
 part-le l o n i b = ⊎-elim
-    (λ (lt : i < n). rw (getD-part l o n i lt) (b (o + i)))
-    (λ (ge : n ≤ i). rw (List·getD-eq-default (take n (drop o l)) 0 {n = i} (omega (arith, length-take n (drop o l)))) (omega arith))
+    (λ (lt : i < n). rw (getD-part l o n i lt) (byte-le l b (o + i)))
+    (λ (ge : n ≤ i).
+    rw (List·getD-eq-default (take n (drop o l)) 0 {n = i} (omega (arith, length-take n (drop o l)))) (omega arith))
     (split i n)
 
 module _ (s : Scene) (bytes : OfBytes s) where
   -- ---- alphas and channels are bytes
 
-  graphics-le : (n u v c : ℕ) → graphicsAt (s .words) (s .tables) n u v c ≤ 255
-  unfolding graphicsAt bankOf
+  graphics-le : (n u v c : ℕ) → graphicsAt (s .words) (s .tables) n v u c ≤ 255
+  unfolding graphicsAt bankBytes
   graphics-le n u v c =
-      part-le (s .tables) (activeAt (s .words) 1 n) (kindLen 1) (colourLen * indexOf (s .words) (s .tables) n v u + c) (bytes .tables)
+      part-le (s .tables) (activeAt (s .words) n 1) (kindLen 1)
+      (colourLen * colourIndex (s .words) (s .tables) n v u + c) (bytes .tables)
 
-  own-le : (n u v c : ℕ) → ownAt s n u v c ≤ 255
+  own-le : (n u v c : ℕ) → ownAt s n v u c ≤ 255
   unfolding ownAt pictureAt
   own-le n u v c =
-      pick-keeps (λ (z : ℕ). z ≤ 255) (layerOf (s .words) n .graphics) _ _ (λ t. graphics-le n u v c) (λ f. bytes .pictures _)
+      pick-keeps (λ (z : ℕ). z ≤ 255) (layerOf (s .words) n .graphics) _ _ (λ t. graphics-le n u v c)
+      (λ f. byte-le (s .pictures) (bytes .pictures) _)
 
-  alpha-le : (n u v : ℕ) → alphaAt s n u v ≤ 255
+  alpha-le : (n u v : ℕ) → alphaAt s n v u ≤ 255
   unfolding alphaAt
   alpha-le n u v =
       pick-keeps (λ (z : ℕ). z ≤ 255) (layerOf (s .words) n .global) _ _
@@ -54,53 +68,62 @@ module _ (s : Scene) (bytes : OfBytes s) where
   abbrev Within : ℕ → ℕ → ℕ → Type 0
   Within lo hi z = (lo ≤ z) × (z ≤ hi)
 
-  pixel-within : (x y c lo hi p : ℕ) → Within lo hi p → ((n : ℕ) → n < 8 → shows s n x y ≡ true → Within lo hi (ownOver s n x y c))
-      → Within lo hi (pixelAt s x y c 0 8 p)
+  pixel-within : (x y c lo hi p : ℕ) → Within lo hi p
+      → ((n : ℕ) → n < 8 → shows s n y x ≡ true → Within lo hi (ownOver s n y x c))
+      → Within lo hi (pixelAt s y x c 0 8 p)
   unfolding overAt
   pixel-within x y c lo hi p b h =
-      bandBy-keeps (Within lo hi) (s .words) (overAt s x y c) 0 8 p
-      (λ n q l bq. pick-keeps (Within lo hi) (covers (layerOf (s .words) n) x y) _ q
+      bandBy-keeps (Within lo hi) (s .words) (overAt s y x c) 0 8 p
+      (λ n q l bq. pick-keeps (Within lo hi) (covers (layerOf (s .words) n) y x) _ q
       (λ t. let o = h n (l .number) (rw (t, l .on)) in
       (blendOf-ge _ _ q lo (alpha-le n _ _) (o .0) (bq .0), blendOf-le _ _ q hi (alpha-le n _ _) (o .1) (bq .1)))
       (λ f. bq)) b
 
   -- ---- the least and the greatest are such bounds
 
-  least-step : (x y c n p : ℕ) → leastStep s x y c n p ≤ p
+  least-step : (x y c n p : ℕ) → leastStep s y x c n p ≤ p
   unfolding leastStep
-  least-step x y c n p = pick-keeps (λ (z : ℕ). z ≤ p) (shows s n x y) _ p (λ t. omega arith) (λ f. omega arith)
+  least-step x y c n p = pick-keeps (λ (z : ℕ). z ≤ p) (shows s n y x) _ p (λ t. omega arith) (λ f. omega arith)
 
-  least-own : (x y c n p : ℕ) → shows s n x y ≡ true → leastStep s x y c n p ≤ ownOver s n x y c
+  least-own : (x y c n p : ℕ) → shows s n y x ≡ true → leastStep s y x c n p ≤ ownOver s n y x c
   unfolding leastStep
   least-own x y c n p t = rw t (omega arith)
 
-  greatest-step : (x y c n p : ℕ) → p ≤ greatestStep s x y c n p
+  greatest-step : (x y c n p : ℕ) → p ≤ greatestStep s y x c n p
   unfolding greatestStep
-  greatest-step x y c n p = pick-keeps (λ (z : ℕ). p ≤ z) (shows s n x y) _ p (λ t. omega arith) (λ f. omega arith)
+  greatest-step x y c n p = pick-keeps (λ (z : ℕ). p ≤ z) (shows s n y x) _ p (λ t. omega arith) (λ f. omega arith)
 
-  greatest-own : (x y c n p : ℕ) → shows s n x y ≡ true → ownOver s n x y c ≤ greatestStep s x y c n p
+  greatest-own : (x y c n p : ℕ) → shows s n y x ≡ true → ownOver s n y x c ≤ greatestStep s y x c n p
   unfolding greatestStep
   greatest-own x y c n p t = rw t (omega arith)
 
   module _ (x y c : ℕ) where
-    ground-within : Within (leastAt s x y c) (greatestAt s x y c) (groundOf (s .words) c)
+    ground-within : Within (leastAt s y x c) (greatestAt s y x c) (groundOf (s .words) c)
     unfolding leastAt greatestAt
     ground-within = (
-      run-keeps (λ (z : ℕ). z ≤ groundOf (s .words) c) 0 8 _ _ (λ n q v b. omega (arith, least-step x y c n q)) (omega arith),
-      run-keeps (λ (z : ℕ). groundOf (s .words) c ≤ z) 0 8 _ _ (λ n q v b. omega (arith, greatest-step x y c n q)) (omega arith),
+      run-keeps (λ (z : ℕ). z ≤ groundOf (s .words) c) 0 8 _ _ (λ n q v b. omega (arith, least-step x y c n q))
+          (omega arith),
+      run-keeps (λ (z : ℕ). groundOf (s .words) c ≤ z) 0 8 _ _ (λ n q v b. omega (arith, greatest-step x y c n q))
+          (omega arith),
     )
 
-    layer-within : (n : ℕ) → n < 8 → shows s n x y ≡ true → Within (leastAt s x y c) (greatestAt s x y c) (ownOver s n x y c)
+    layer-within : (n : ℕ) → n < 8 → shows s n y x ≡ true
+        → Within (leastAt s y x c) (greatestAt s y x c) (ownOver s n y x c)
     unfolding leastAt greatestAt
     layer-within n hn t = (
-      run-after (λ (z : ℕ). z ≤ ownOver s n x y c) 0 8 n _ _ (omega arith)
+      run-after (λ (z : ℕ). z ≤ ownOver s n y x c) 0 8 n _ _ (omega arith)
           (λ q. least-own x y c n q t) (λ m q v b. omega (arith, least-step x y c m q)),
-      run-after (λ (z : ℕ). ownOver s n x y c ≤ z) 0 8 n _ _ (omega arith)
+      run-after (λ (z : ℕ). ownOver s n y x c ≤ z) 0 8 n _ _ (omega arith)
           (λ q. greatest-own x y c n q t) (λ m q v b. omega (arith, greatest-step x y c m q)),
     )
 
-    -- the law
-    pub between : Ready s → OnScreen (s .words) x y c → (leastAt s x y c ≤ channelAt s x y c) × (channelAt s x y c ≤ greatestAt s x y c)
-    between ready on =
+    channel-within : Ready s → OnScreen (s .words) y x c
+        → Within (leastAt s y x c) (greatestAt s y x c) (channelAt s y x c)
+    channel-within ready on =
         rw (channelAt-is s (ready .shown) x y c on)
-        (pixel-within x y c (leastAt s x y c) (greatestAt s x y c) (groundOf (s .words) c) ground-within layer-within)
+        (pixel-within x y c (leastAt s y x c) (greatestAt s y x c) (groundOf (s .words) c) ground-within layer-within)
+
+-- the law
+pub between : (s : Scene) (y x c : ℕ) → Ready s → OfBytes s → OnScreen (s .words) y x c
+    → (leastAt s y x c ≤ channelAt s y x c) × (channelAt s y x c ≤ greatestAt s y x c)
+between s y x c ready bytes on = channel-within s bytes x y c ready on

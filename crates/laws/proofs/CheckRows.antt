@@ -10,15 +10,20 @@ use Rattle.lists.specs.Choice.{pick, both, either, orElse}
 use Rattle.lists.specs.Runs.{firstOf}
 use Rattle.words.specs.declared.fields.Layer.{Layer}
 use Rattle.words.specs.Fields.{widthOf, heightOf, layerOf}
-use Rattle.words.specs.Check.{reservedAt, screenOf, placeOf, placeAt, clashOf, clashAt, clashBelow, checkOf}
-use Rattle.laws.specs.Rows.{ReservedBit, EmptyScreen, Enabled, EmptyLayer, OffScreen, Passes, SameDepth, Case8, Case9, Case10, Case11, Faultless}
-use Rattle.laws.proofs.Refusals.{says-itself, eqb-says, ltb-says, both-says, either-says, Tells, refuses, refuses-but, tells-as, Misses, other, misses-or, or-first, or-later, given-when, passed-when, own, past, tells-first, misses-first, first-passed, first-given}
+use Rattle.words.specs.Check.{reservedAt, screenOf, placeOf, placeAt, clashOf, clashAt, clashBelow, checkOf, Accepted}
+use Rattle.words.proofs.CheckLaws.{check-accepted, accepted-check}
+use Rattle.laws.specs.Rows.{ReservedBit, EmptyScreen, Enabled, EmptyLayer, OffScreen, Passes, SameDepth, Case8}
+use Rattle.laws.specs.Rows.{Case9, Case10, Case11}
+use Rattle.laws.proofs.Refusals.{says-itself, eqb-says, ltb-says, both-says, either-says, Tells, refuses}
+use Rattle.laws.proofs.Refusals.{refuses-but, tells-as, Misses, other, misses-or, or-first, or-later, given-when}
+use Rattle.laws.proofs.Refusals.{passed-when, own, past, tells-first, misses-first, first-passed, first-given}
 
 -- ---- the tests
 
 -- a layer's two refusals one after the other, and the others' tests joined
 place-is : (o e f g h : Bool)
-    → pick o (pick e 9 (pick f 9 (pick g 10 (pick h 10 0)))) 0 ≡ orElse (pick (both o (either e f)) 9 0) (pick (both o (either g h)) 10 0)
+    → pick o (pick e 9 (pick f 9 (pick g 10 (pick h 10 0)))) 0
+    ≡ orElse (pick (both o (either e f)) 9 0) (pick (both o (either g h)) 10 0)
 place-is true true f g h = refl
 place-is true false true g h = refl
 place-is true false false true h = refl
@@ -44,7 +49,8 @@ module _ (W H : ℕ) (l : Layer) where
 
   placeOf-is : placeOf W H l ≡ orElse (pick empty 9 0) (pick off 10 0)
   unfolding placeOf empty off
-  placeOf-is = place-is (l .on) (eqb (l .width) 0) (eqb (l .height) 0) (ltb W (l .x + l .width)) (ltb H (l .y + l .height))
+  placeOf-is =
+      place-is (l .on) (eqb (l .width) 0) (eqb (l .height) 0) (ltb W (l .x + l .width)) (ltb H (l .y + l .height))
 
 module _ (w : List ℕ) where
   tells-7 : Tells (firstOf 52 (reservedAt w)) 7 (ReservedBit w)
@@ -53,7 +59,9 @@ module _ (w : List ℕ) where
 
   tells-8 : Tells (screenOf w) 8 (EmptyScreen w)
   unfolding screenOf
-  tells-8 = rw (screen-is (eqb (widthOf w) 0) (eqb (heightOf w) 0)) (refuses _ 8 (either-says _ _ (eqb-says (widthOf w) 0) (eqb-says (heightOf w) 0)))
+  tells-8 =
+      rw (screen-is (eqb (widthOf w) 0) (eqb (heightOf w) 0))
+      (refuses _ 8 (either-says _ _ (eqb-says (widthOf w) 0) (eqb-says (heightOf w) 0)))
 
   -- layers n and m, both enabled and of one depth
   abbrev OneDepth : ℕ → ℕ → Type 0
@@ -90,15 +98,19 @@ module _ (w : List ℕ) where
 
     place-10 : (placeAt w n ≡ 10) ↔ ((¬ EmptyLayer w n) × OffScreen w n)
     unfolding placeAt
-    place-10 = rw (placeOf-is (widthOf w) (heightOf w) (layerOf w n)) (past refl _ 10 refl tells-9 (given-when refl tells-10))
+    place-10 =
+        rw (placeOf-is (widthOf w) (heightOf w) (layerOf w n)) (past refl _ 10 refl tells-9 (given-when refl tells-10))
 
     place-0 : (placeAt w n ≡ 0) ↔ Passes w n
     unfolding placeAt
-    place-0 = rw (placeOf-is (widthOf w) (heightOf w) (layerOf w n)) (past refl _ 0 refl tells-9 (passed-when refl tells-10))
+    place-0 =
+        rw (placeOf-is (widthOf w) (heightOf w) (layerOf w n)) (past refl _ 0 refl tells-9 (passed-when refl tells-10))
 
     place-misses : (r : ℕ) → eqb 9 r ≡ false → eqb 10 r ≡ false → Misses (placeAt w n) r
     unfolding placeAt
-    place-misses r p q = rw (placeOf-is (widthOf w) (heightOf w) (layerOf w n)) (misses-or _ _ r (other r p tells-9) (other r q tells-10))
+    place-misses r p q =
+        rw (placeOf-is (widthOf w) (heightOf w) (layerOf w n))
+        (misses-or _ _ r (other r p tells-9) (other r q tells-10))
 
   places-miss : (r : ℕ) → eqb 9 r ≡ false → eqb 10 r ≡ false → Misses (firstOf 8 (placeAt w)) r
   places-miss r p q = misses-first 8 r (placeAt w) (λ n. place-misses n r p q)
@@ -118,25 +130,27 @@ module _ (w : List ℕ) where
   pub check-9 : (checkOf w ≡ 9) ↔ Case9 w
   unfolding checkOf
   check-9 = past refl _ 9 refl tells-7 (past refl _ 9 refl tells-8
-      (or-first (firstOf 8 (placeAt w)) _ 9 refl (other 9 refl tells-11) (first-given (placeAt w) place-0 9 refl place-9 8)))
+      (or-first (firstOf 8 (placeAt w)) _ 9 refl (other 9 refl tells-11)
+      (first-given (placeAt w) place-0 9 refl place-9 8)))
 
   pub check-10 : (checkOf w ≡ 10) ↔ Case10 w
   unfolding checkOf
   check-10 = past refl _ 10 refl tells-7 (past refl _ 10 refl tells-8
-      (or-first (firstOf 8 (placeAt w)) _ 10 refl (other 10 refl tells-11) (first-given (placeAt w) place-0 10 refl place-10 8)))
+      (or-first (firstOf 8 (placeAt w)) _ 10 refl (other 10 refl tells-11)
+      (first-given (placeAt w) place-0 10 refl place-10 8)))
 
   pub check-11 : (checkOf w ≡ 11) ↔ Case11 w
   unfolding checkOf
   check-11 = past refl _ 11 refl tells-7 (past refl _ 11 refl tells-8
-      (or-later (firstOf 8 (placeAt w)) _ 11 (places-miss 11 refl refl) (first-passed (placeAt w) place-0 8) (given-when refl tells-11)))
+      (or-later (firstOf 8 (placeAt w)) _ 11 (places-miss 11 refl refl) (first-passed (placeAt w) place-0 8)
+      (given-when refl tells-11)))
 
-  pub check-0 : (checkOf w ≡ 0) ↔ Faultless w
-  unfolding checkOf
-  check-0 = past refl _ 0 refl tells-7 (past refl _ 0 refl tells-8
-      (or-later (firstOf 8 (placeAt w)) _ 0 (λ z. z) (first-passed (placeAt w) place-0 8) (passed-when refl tells-11)))
+  pub check-0 : (checkOf w ≡ 0) ↔ Accepted w
+  check-0 = (check-accepted w, accepted-check w)
 
   -- it gives no other number
-  pub check-misses : (r : ℕ) → eqb 7 r ≡ false → eqb 8 r ≡ false → eqb 9 r ≡ false → eqb 10 r ≡ false → eqb 11 r ≡ false → Misses (checkOf w) r
+  pub check-misses : (r : ℕ) → eqb 7 r ≡ false → eqb 8 r ≡ false → eqb 9 r ≡ false → eqb 10 r ≡ false
+      → eqb 11 r ≡ false → Misses (checkOf w) r
   unfolding checkOf
   check-misses r a b c d e =
       misses-or (firstOf 52 (reservedAt w)) _ r (other r a tells-7) (misses-or (screenOf w) _ r (other r b tells-8)

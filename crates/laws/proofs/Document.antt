@@ -9,28 +9,17 @@ use Rattle.tables.specs.Geometry.{tablesLen}
 use Rattle.display.specs.State.{fresh}
 use Rattle.lines.specs.Line.{lineOf}
 use Rattle.lines.specs.Sheet.{linesFrom, linesOf, sheetOf, programOf}
+use Rattle.laws.specs.Figures.{documentLine, documentReply}
 use Rattle.laws.specs.Small.{blank}
 use Rattle.laws.proofs.Small.{lineOpen, blank-long}
 
--- `00030000000005010001000202003020100000`
-abbrev input : List ℕ
-input =
-    48 ∷ 48 ∷ 48 ∷ 51 ∷ 48 ∷ 48 ∷ 48 ∷ 48 ∷ 48 ∷ 48 ∷ 48 ∷ 48 ∷ 48 ∷ 53 ∷ 48 ∷ 49 ∷ 48 ∷ 48
-    ∷ 48 ∷ 49 ∷ 48 ∷ 48 ∷ 48 ∷ 50 ∷ 48 ∷ 50 ∷ 48 ∷ 48 ∷ 51 ∷ 48 ∷ 50 ∷ 48 ∷ 49 ∷ 48 ∷ 48 ∷ 48
-    ∷ 48 ∷ 48 ∷ []
-
--- `000000000000020001102030FF102030FF`
-abbrev reply : List ℕ
-reply =
-    48 ∷ 48 ∷ 48 ∷ 48 ∷ 48 ∷ 48 ∷ 48 ∷ 48 ∷ 48 ∷ 48 ∷ 48 ∷ 48 ∷ 48 ∷ 50 ∷ 48 ∷ 48 ∷ 48 ∷ 49
-    ∷ 49 ∷ 48 ∷ 50 ∷ 48 ∷ 51 ∷ 48 ∷ 70 ∷ 70 ∷ 49 ∷ 48 ∷ 50 ∷ 48 ∷ 51 ∷ 48 ∷ 70 ∷ 70 ∷ []
-
 -- a first line, with any tables of the right length
-pub lineOf-document : (t : List ℕ) → length t ≡ tablesLen → lineOf fresh t input .printed ≡ reply ++ 10 ∷ []
+pub lineOf-document : (t : List ℕ) → length t ≡ tablesLen
+    → lineOf fresh t documentLine .printed ≡ documentReply ++ 10 ∷ []
 unfolding lineOpen
 lineOf-document t long = rw (eq-eqb _ _ long)
 
 -- and so a sheet of that line
-pub programOf-document : programOf (input ++ 10 ∷ []) ≡ reply ++ 10 ∷ []
+pub programOf-document : programOf (documentLine ++ 10 ∷ []) ≡ documentReply ++ 10 ∷ []
 unfolding programOf sheetOf linesOf linesFrom
 programOf-document = rw (lineOf-document blank blank-long)

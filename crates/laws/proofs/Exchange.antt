@@ -14,23 +14,24 @@ use Rattle.lists.proofs.Choice.{same-or, both-false}
 use Rattle.lists.proofs.Run.{run-cong, run-swap}
 use Rattle.lists.proofs.Bits.{or-swap}
 use Rattle.answers.specs.Answers.{done}
+use Rattle.words.specs.Check.{Plain, Accepted}
 use Rattle.words.specs.declared.fields.Layer.{Layer}
 use Rattle.words.specs.Fields.{layerOf}
 use Rattle.words.specs.Order.{here}
-use Rattle.words.proofs.CheckLaws.{Plain, Accepted}
-use Rattle.paint.specs.Scene.{Scene}
-use Rattle.paint.specs.Pixel.{covers, overAt}
-use Rattle.paint.specs.Band.{layerStep, depthStep, bandBy, missing, markAt, errorsOf}
-use Rattle.paint.specs.Frame.{frameLen, refusalOf, frameOf}
-use Rattle.paint.specs.Frame as painting
-use Rattle.paint.proofs.LineLaws.{over-outside}
+use Rattle.frames.specs.Scene.{Scene}
+use Rattle.frames.specs.Pixel.{covers, overAt}
+use Rattle.frames.specs.Band.{layerStep, depthStep, bandBy, missing, markAt, errorsOf}
+use Rattle.frames.specs.Frame.{frameLen, refusalOf, frameOf}
+use Rattle.frames.specs.Frame as painting
+use Rattle.frames.proofs.PixelLaws.{over-outside}
 use Rattle.display.specs.declared.Display.{Display}
 use Rattle.display.specs.State.{told, withActive}
-use Rattle.display.specs.Paint.{sceneWith, frameTold, frameBytes}
+use Rattle.display.specs.Paint.{sceneWith, frameTold, frameBytes, paintTold}
 use Rattle.laws.specs.Painting.{Ready, IsLayer, Neighbours, withWords, withDepth, exchanged}
-use Rattle.laws.proofs.LayerLaws.{atDepth, Alike, depth-lt, withDepth-same, withDepth-other, withDepth-word, depth-plain, depth-free, set-plain, accepted-alike}
+use Rattle.laws.proofs.LayerLaws.{atDepth, Alike, depth-lt, withDepth-same, withDepth-other, withDepth-word}
+use Rattle.laws.proofs.LayerLaws.{depth-plain, depth-free, set-plain, accepted-alike}
 use Rattle.laws.proofs.Bands.{depthStep-only, depthStep-none}
-use Rattle.laws.proofs.Pixels.{ready-accepted, ready-done, ready-alike, covers-not, over-alike, mark-alike, frame-same}
+use Rattle.laws.proofs.Pixels.{ready-done, ready-alike, covers-not, over-alike, mark-alike, frame-same}
 
 -- layer n is i, or j, or neither
 data Who (i j n : ℕ) : Type 0 where
@@ -46,41 +47,46 @@ who i j n = ⊎-elim
 
 -- bits set where a test says so, in either order
 mark-swap : (s t : Bool) (e a b : ℕ)
-    → pick t (bitOr (pick s (bitOr e a) e) b) (pick s (bitOr e a) e) ≡ pick s (bitOr (pick t (bitOr e b) e) a) (pick t (bitOr e b) e)
+    → pick t (bitOr (pick s (bitOr e a) e) b) (pick s (bitOr e a) e)
+    ≡ pick s (bitOr (pick t (bitOr e b) e) a) (pick t (bitOr e b) e)
 mark-swap true true e a b = or-swap e a b
 mark-swap true false e a b = refl
 mark-swap false true e a b = refl
 mark-swap false false e a b = refl
 
-module _ (w : List ℕ) (i j : ℕ) (acc : Accepted w) (q : Neighbours w i j) where
+module _ (w : List ℕ) (i j : ℕ) (all : length w ≡ 52) (acc : Accepted w) (q : Neighbours w i j) where
   -- ---- the exchanged words
 
   ij : i ≡ j → ⊥
-  ij e = let u = q .under in let d : layerOf w i .depth ≡ layerOf w j .depth = ap (λ (n : ℕ). layerOf w n .depth) e in omega arith
+  ij e =
+      let u = q .under in
+      let d : layerOf w i .depth ≡ layerOf w j .depth = ap (λ (n : ℕ). layerOf w n .depth) e in
+      omega arith
 
   half : List ℕ
   half = withDepth w i (layerOf w j .depth)
 
   long-half : length half ≡ 52
   unfolding half withDepth
-  long-half = length-set w (4 + 6 * i) _ ∙ acc .long
+  long-half = length-set w (4 + 6 * i) _ ∙ all
 
   layer-i : layerOf (exchanged w i j) i ≡ atDepth (layerOf w i) (layerOf w j .depth)
   unfolding exchanged half
   layer-i =
       withDepth-other half long-half j (layerOf w i .depth) i ij
-      ∙ withDepth-same w (acc .long) i (layerOf w j .depth) (q .low .number) (depth-lt w j)
+      ∙ withDepth-same w (all) i (layerOf w j .depth) (q .low .number) (depth-lt w j)
 
   layer-j : layerOf (exchanged w i j) j ≡ atDepth (layerOf w j) (layerOf w i .depth)
   unfolding exchanged half
   layer-j =
       withDepth-same half long-half j (layerOf w i .depth) (q .high .number) (depth-lt w i)
-      ∙ ap (λ (l : Layer). atDepth l (layerOf w i .depth)) (withDepth-other w (acc .long) i (layerOf w j .depth) j (λ e. ij (sym e)))
+      ∙ ap (λ (l : Layer). atDepth l (layerOf w i .depth))
+      (withDepth-other w (all) i (layerOf w j .depth) j (λ e. ij (sym e)))
 
   layer-m : (m : ℕ) → (m ≡ i → ⊥) → (m ≡ j → ⊥) → layerOf (exchanged w i j) m ≡ layerOf w m
   unfolding exchanged half
   layer-m m a b =
-      withDepth-other half long-half j (layerOf w i .depth) m b ∙ withDepth-other w (acc .long) i (layerOf w j .depth) m a
+      withDepth-other half long-half j (layerOf w i .depth) m b ∙ withDepth-other w (all) i (layerOf w j .depth) m a
 
   -- but for the depth every layer is what it was
   alike : (n : ℕ) → Alike (layerOf (exchanged w i j) n) (layerOf w n)
@@ -91,24 +97,26 @@ module _ (w : List ℕ) (i j : ℕ) (acc : Accepted w) (q : Neighbours w i j) wh
       go (is-j e) = rw e (ap (λ (l : Layer). atDepth l 0) layer-j)
       go (other a b) = ap (λ (l : Layer). atDepth l 0) (layer-m n a b)
 
-  first-words : (k : ℕ) → k < 4 → getD (exchanged w i j) k 0 ≡ getD w k 0
+  pub exchanged-word : (k : ℕ) → k < 4 → getD (exchanged w i j) k 0 ≡ getD w k 0
   unfolding exchanged half
-  first-words k h =
-      withDepth-word half long-half j (layerOf w i .depth) k h ∙ withDepth-word w (acc .long) i (layerOf w j .depth) k h
+  exchanged-word k h =
+      withDepth-word half long-half j (layerOf w i .depth) k h ∙ withDepth-word w (all) i (layerOf w j .depth) k h
 
   -- ---- they are accepted
 
   plain-half : (k : ℕ) → k < 52 → Plain half k
   unfolding half withDepth
   plain-half =
-      set-plain w (4 + 6 * i) _ (acc .long) (acc .plain)
-      (depth-plain _ (layerOf w j .depth) _ (depth-lt w j) (depth-free i (q .low .number)) (acc .plain (4 + 6 * i) (omega (arith, q .low .number))))
+      set-plain w (4 + 6 * i) _ (all) (acc .plain)
+      (depth-plain _ (layerOf w j .depth) _ (depth-lt w j) (depth-free i (q .low .number))
+      (acc .plain (4 + 6 * i) (omega (arith, q .low .number))))
 
   plain : (k : ℕ) → k < 52 → Plain (exchanged w i j) k
   unfolding exchanged withDepth half
   plain =
       set-plain half (4 + 6 * j) _ long-half plain-half
-      (depth-plain _ (layerOf w i .depth) _ (depth-lt w i) (depth-free j (q .high .number)) (plain-half (4 + 6 * j) (omega (arith, q .high .number))))
+      (depth-plain _ (layerOf w i .depth) _ (depth-lt w i) (depth-free j (q .high .number))
+      (plain-half (4 + 6 * j) (omega (arith, q .high .number))))
 
   on-same : (n : ℕ) → layerOf (exchanged w i j) n .on ≡ layerOf w n .on
   on-same n = ap (λ (l : Layer). l .on) (alike n)
@@ -150,7 +158,7 @@ module _ (w : List ℕ) (i j : ℕ) (acc : Accepted w) (q : Neighbours w i j) wh
 
   pub exchange-accepted : Accepted (exchanged w i j)
   exchange-accepted =
-      accepted-alike w (exchanged w i j) acc long plain (first-words 1 (omega arith)) (λ n o. alike n)
+      accepted-alike w (exchanged w i j) acc plain (exchanged-word 1 (omega arith)) (λ n o. alike n)
       (λ n m hn hm on om on′ om′ d. one-depth n m hn hm on om d)
 
   -- ---- a fold over them
@@ -158,7 +166,8 @@ module _ (w : List ℕ) (i j : ℕ) (acc : Accepted w) (q : Neighbours w i j) wh
   miss : (k m d : ℕ) → (d ≡ layerOf w m .depth → ⊥) → both (layerOf w k .on) (eqb (layerOf w m .depth) d) ≡ false
   miss k m d ne = both-false (layerOf w k .on) (eqb (layerOf w m .depth) d) (λ o t. ne (sym (eqb-true _ _ t)))
 
-  here-same : (n d : ℕ) → (d ≡ layerOf w i .depth → ⊥) → (d ≡ layerOf w j .depth → ⊥) → here (layerOf (exchanged w i j) n) d ≡ here (layerOf w n) d
+  here-same : (n d : ℕ) → (d ≡ layerOf w i .depth → ⊥) → (d ≡ layerOf w j .depth → ⊥)
+      → here (layerOf (exchanged w i j) n) d ≡ here (layerOf w n) d
   here-same n d a b = go (who i j n)
     where
       go : Who i j n → here (layerOf (exchanged w i j) n) d ≡ here (layerOf w n) d
@@ -173,18 +182,25 @@ module _ (w : List ℕ) (i j : ℕ) (acc : Accepted w) (q : Neighbours w i j) wh
   layer-j′ = record { number = q .high .number; on = on-same j ∙ q .high .on }
 
   -- steps that are the same for both words, and of which those of i and j go in either order
-  module _ (step step′ : ℕ → ℕ → ℕ) (same : (n p : ℕ) → step′ n p ≡ step n p) (commute : (p : ℕ) → step j (step i p) ≡ step i (step j p)) where
-    at-rest : (d p : ℕ) → (d ≡ layerOf w i .depth → ⊥) → (d ≡ layerOf w j .depth → ⊥) → depthStep (exchanged w i j) step′ d p ≡ depthStep w step d p
+  module _ (step step′ : ℕ → ℕ → ℕ) (same : (n p : ℕ) → step′ n p ≡ step n p)
+      (commute : (p : ℕ) → step j (step i p) ≡ step i (step j p)) where
+    at-rest : (d p : ℕ) → (d ≡ layerOf w i .depth → ⊥) → (d ≡ layerOf w j .depth → ⊥)
+        → depthStep (exchanged w i j) step′ d p ≡ depthStep w step d p
     unfolding depthStep layerStep
     at-rest d p a b = run-cong 0 8 _ _ p (λ n r v. rw (here-same n d a b, same n r))
 
     at-low : (p : ℕ) → depthStep (exchanged w i j) step′ (layerOf w i .depth) p ≡ step j p
-    at-low p = depthStep-only (exchanged w i j) step′ j _ p exchange-accepted layer-j′ (ap (λ (l : Layer). l .depth) layer-j) ∙ same j p
+    at-low p =
+        depthStep-only (exchanged w i j) step′ j _ p exchange-accepted layer-j′
+        (ap (λ (l : Layer). l .depth) layer-j) ∙ same j p
 
     at-high : (p : ℕ) → depthStep (exchanged w i j) step′ (layerOf w j .depth) p ≡ step i p
-    at-high p = depthStep-only (exchanged w i j) step′ i _ p exchange-accepted layer-i′ (ap (λ (l : Layer). l .depth) layer-i) ∙ same i p
+    at-high p =
+        depthStep-only (exchanged w i j) step′ i _ p exchange-accepted layer-i′
+        (ap (λ (l : Layer). l .depth) layer-i) ∙ same i p
 
-    both-steps : (r : ℕ) → depthStep w step (layerOf w j .depth) (depthStep w step (layerOf w i .depth) r) ≡ step j (step i r)
+    both-steps : (r : ℕ)
+        → depthStep w step (layerOf w j .depth) (depthStep w step (layerOf w i .depth) r) ≡ step j (step i r)
     both-steps r =
         ap (depthStep w step (layerOf w j .depth)) (depthStep-only w step i _ r acc (q .low) refl)
         ∙ depthStep-only w step j _ _ acc (q .high) refl
@@ -192,10 +208,13 @@ module _ (w : List ℕ) (i j : ℕ) (acc : Accepted w) (q : Neighbours w i j) wh
     exchange-band : (p : ℕ) → bandBy (exchanged w i j) step′ 0 8 p ≡ bandBy w step 0 8 p
     unfolding bandBy
     exchange-band p =
-        run-swap 0 8 (layerOf w i .depth) (layerOf w j .depth) (depthStep (exchanged w i j) step′) (depthStep w step) p (omega arith) (q .under) (depth-lt w j)
+        run-swap 0 8 (layerOf w i .depth) (layerOf w j .depth) (depthStep (exchanged w i j) step′)
+        (depthStep w step) p (omega arith) (q .under) (depth-lt w j)
         (λ d r v a b. at-rest d r a b)
-        (λ d r lo hi. at-rest d r (λ e. omega arith) (λ e. omega arith) ∙ depthStep-none w step d r (λ m lm dm. q .next m lm (omega arith) (omega arith)))
-        (λ r. ap (depthStep (exchanged w i j) step′ (layerOf w j .depth)) (at-low r) ∙ at-high (step j r) ∙ sym (commute r) ∙ sym (both-steps r))
+        (λ d r lo hi. at-rest d r (λ e. omega arith) (λ e. omega arith)
+        ∙ depthStep-none w step d r (λ m lm dm. q .next m lm (omega arith) (omega arith)))
+        (λ r. ap (depthStep (exchanged w i j) step′ (layerOf w j .depth)) (at-low r) ∙ at-high (step j r)
+        ∙ sym (commute r) ∙ sym (both-steps r))
 
 module _ (s : Scene) (i j : ℕ) (ready : Ready s) (q : Neighbours (s .words) i j) where
   abbrev w : List ℕ
@@ -208,52 +227,67 @@ module _ (s : Scene) (i j : ℕ) (ready : Ready s) (q : Neighbours (s .words) i 
   s′ = withWords s w′
 
   acc : Accepted w
-  acc = ready-accepted s ready
+  acc = ready .accepted
 
   banks : getD w′ 3 0 ≡ getD w 3 0
-  banks = first-words w i j acc q 3 (omega arith)
+  banks = exchanged-word w i j (ready .long) acc q 3 (omega arith)
 
   -- at a pixel one of the two does nothing, so they may go in either order
-  commute : (x y c p : ℕ) → overAt s x y c j (overAt s x y c i p) ≡ overAt s x y c i (overAt s x y c j p)
-  commute x y c p = go (covers (layerOf w i) x y) refl (covers (layerOf w j) x y) refl
+  commute : (x y c p : ℕ) → overAt s y x c j (overAt s y x c i p) ≡ overAt s y x c i (overAt s y x c j p)
+  commute x y c p = go (covers (layerOf w i) y x) refl (covers (layerOf w j) y x) refl
     where
-      go : (a : Bool) → covers (layerOf w i) x y ≡ a → (b : Bool) → covers (layerOf w j) x y ≡ b
-          → overAt s x y c j (overAt s x y c i p) ≡ overAt s x y c i (overAt s x y c j p)
+      go : (a : Bool) → covers (layerOf w i) y x ≡ a → (b : Bool) → covers (layerOf w j) y x ≡ b
+          → overAt s y x c j (overAt s y x c i p) ≡ overAt s y x c i (overAt s y x c j p)
       go true e true f = absurd (q .apart x y e f)
       go true e false f =
           over-outside s x y c j _ (covers-not (layerOf w j) x y f)
-          ∙ ap (overAt s x y c i) (sym (over-outside s x y c j p (covers-not (layerOf w j) x y f)))
+          ∙ ap (overAt s y x c i) (sym (over-outside s x y c j p (covers-not (layerOf w j) x y f)))
       go false e b f =
-          ap (overAt s x y c j) (over-outside s x y c i p (covers-not (layerOf w i) x y e))
+          ap (overAt s y x c j) (over-outside s x y c i p (covers-not (layerOf w i) x y e))
           ∙ sym (over-outside s x y c i _ (covers-not (layerOf w i) x y e))
 
   mark-commute : (e : ℕ) → markAt s j (markAt s i e) ≡ markAt s i (markAt s j e)
   unfolding markAt
   mark-commute e = mark-swap (missing s i) (missing s j) e (2 ^ (4 * i)) (2 ^ (4 * j))
 
-  -- the settings are still accepted, with right buffers; no byte of the frame changes; and the error
-  -- word comes out the same, so of the state only the exchanged fields differ
-  pub exchange : Ready (withWords s (exchanged (s .words) i j)) × (frameOf (withWords s (exchanged (s .words) i j)) ≡ frameOf s)
-      × ((errors : ℕ) → errorsOf (withWords s (exchanged (s .words) i j)) 0 8 errors ≡ errorsOf s 0 8 errors)
+  over-both : Ready s′ × (frameOf s′ ≡ frameOf s) × ((errors : ℕ) → errorsOf s′ 0 8 errors ≡ errorsOf s 0 8 errors)
   unfolding errorsOf
-  exchange = (
-    ready-alike s w′ (alike w i j acc q) banks ready (exchange-accepted w i j acc q) (first-words w i j acc q 0 (omega arith)),
-    frame-same s s′ (λ k h. first-words w i j acc q k (omega arith))
-        (λ x y c p hc. exchange-band w i j acc q (overAt s x y c) (overAt s′ x y c) (λ n r. over-alike s w′ (alike w i j acc q) banks x y c n r hc) (commute x y c) p),
-    λ e. rw (first-words w i j acc q 0 (omega arith), exchange-band w i j acc q (markAt s) (markAt s′) (mark-alike s w′ (alike w i j acc q) banks) mark-commute e),
+  over-both = (
+    ready-alike s w′ (alike w i j (ready .long) acc q) banks ready (long w i j (ready .long) acc q)
+        (exchange-accepted w i j (ready .long) acc q) (exchanged-word w i j (ready .long) acc q 0 (omega arith)),
+    frame-same s s′ (λ k h. exchanged-word w i j (ready .long) acc q k (omega arith))
+        (λ x y c p hc. exchange-band w i j (ready .long) acc q (overAt s y x c) (overAt s′ y x c)
+        (λ n r. over-alike s w′ (alike w i j (ready .long) acc q) banks x y c n r hc) (commute x y c) p),
+    λ e. rw (
+      exchanged-word w i j (ready .long) acc q 0 (omega arith),
+      exchange-band w i j (ready .long) acc q
+          (markAt s) (markAt s′) (mark-alike s w′ (alike w i j (ready .long) acc q) banks) mark-commute e,
+    ),
   )
+
+-- the law: the settings are still accepted, with right buffers; no byte of the frame changes; and the error
+-- word comes out the same, so of the state only the exchanged fields differ
+pub exchange : (s : Scene) (i j : ℕ) → Ready s → Neighbours (s .words) i j
+    → let s′ = withWords s (exchanged (s .words) i j) in
+    Ready s′ × (frameOf s′ ≡ frameOf s) × ((errors : ℕ) → errorsOf s′ 0 8 errors ≡ errorsOf s 0 8 errors)
+exchange s i j ready q = over-both s i j ready q
 
 -- as the display tells it: the same bytes, the same answer, and a state that differs in the exchanged
 -- fields alone
-pub exchange-frame : (d : Display) (tables pictures out : List ℕ) (i j : ℕ) → Ready (sceneWith d tables pictures) → Neighbours (d .active) i j → length out ≡ frameLen (d .active)
+pub exchange-frame : (d : Display) (tables pictures out : List ℕ) (i j : ℕ) → Ready (sceneWith d tables pictures)
+    → Neighbours (d .active) i j → length out ≡ frameLen (d .active)
     → let e = withActive d (exchanged (d .active) i j) in
     (frameBytes e tables pictures out ≡ frameBytes d tables pictures out)
-    × (frameTold e tables pictures out ≡ told (withActive (frameTold d tables pictures out .state) (exchanged (d .active) i j)) (frameTold d tables pictures out .answer))
-unfolding frameBytes frameTold painting.frameAfter painting.frameTold painting.paintTold
+    × (frameTold e tables pictures out
+    ≡ told (withActive (frameTold d tables pictures out .state) (exchanged (d .active) i j))
+    (frameTold d tables pictures out .answer))
+unfolding frameBytes frameTold painting.frameAfter paintTold painting.errorsAfter
 exchange-frame d tables pictures out i j ready q long =
     let s : Scene = sceneWith d tables pictures in
     let x = exchange s i j ready q in
-    let same : getD (exchanged (d .active) i j) 1 0 ≡ getD (d .active) 1 0 = first-words (d .active) i j (ready-accepted s ready) q 1 (omega arith) in
+    let same : getD (exchanged (d .active) i j) 1 0 ≡ getD (d .active) 1 0 =
+    exchanged-word (d .active) i j (ready .long) (ready .accepted) q 1 (omega arith) in
     let here : refusalOf s 0 8 out ≡ done = ready-done s 0 8 out ready (omega arith) (omega arith) long in
-    let there : refusalOf (withWords s (exchanged (d .active) i j)) 0 8 out ≡ done = ready-done _ 0 8 out (x .0) (omega arith) (omega arith) (rw same long) in
+    let there : refusalOf (withWords s (exchanged (d .active) i j)) 0 8 out ≡ done =
+    ready-done _ 0 8 out (x .0) (omega arith) (omega arith) (rw same long) in
     (rw (here, there) (x .1), rw (here, there, x .2 (d .errors)))

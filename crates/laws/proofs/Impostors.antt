@@ -1,29 +1,36 @@
--- Each wrong display breaks the promise of each call that it fits, on a small input that is accepted
--- (`proofs/Small.antt`). A law CALL-IMPOSTOR says that its outcome is not the promised one, and
+-- Each wrong display breaks the contract of each call that it fits, on a small input that is accepted
+-- (`proofs/Small.antt`). A law CALL-IMPOSTOR says that its outcome does not meet the call's contract, and
 -- IMPOSTOR-breaks says so of all that paint. Assumes nothing.
-use Prim.Native.Nat.{ℕ}
+use Prim.Native.Nat.{ℕ, _<_}
 use mathlib.Core.Path.{_≡_, refl, sym, ap, _∙_}
 use mathlib.Core.List.{List, [], _∷_}
 use native.Mathlib.Omega.{arith}
 use borrow.Author.Tests.{eq-eqb}
-use lib.ListN.{length, getD, take}
+use lib.ListN.{length, getD, take, getD-replicate}
 use lib.Seq.{getD-set-same}
+use Rattle.lists.specs.Call.{Meets}
 use Rattle.lists.specs.Over.{over}
 use Rattle.lists.specs.Steps.{through, keep}
+use Rattle.lists.proofs.Call.{pair-is, tied-meets}
 use Rattle.answers.specs.Answers.{done}
-use Rattle.words.specs.Order.{layersAt, layersBelow, orderOf}
+use Rattle.words.specs.Order.{layersAt, layersBelow, orderOf, bandLayers}
 use Rattle.tables.specs.Geometry.{tablesLen, kindAt}
-use Rattle.paint.specs.Scene.{Scene}
-use Rattle.paint.specs.Band.{pixelAt, bandByte, bandOf}
-use Rattle.paint.specs.Plan.{bandLayers}
+use Rattle.frames.specs.Scene.{Scene}
+use Rattle.frames.specs.Band.{pixelAt, bandByte, bandOf}
 use Rattle.display.specs.declared.Told.{Told}
-use Rattle.display.specs.State.{fresh, writeOf, selectOf, toggleOf, startOf}
-use Rattle.display.specs.Put.{putOf, putTables}
-use Rattle.display.specs.Paint.{fillTold, fillBytes, paintTold, frameTold}
+use Rattle.display.specs.State.{fresh}
 use Rattle.display.proofs.PutLaws.{put-done}
-use Rattle.host.specs.Host.{hostAnswer}
-use Rattle.laws.specs.Small.{grey, night, written, started, sizeless, selecting, blank, filled, white, clear, dim, bright, image, line, page, scene, painted, framed, hostScene, hosted, printed}
-use Rattle.laws.specs.Impostors.{TurnsDown, PrintsDown, untouched, andNot, stoppedStart, Rule, paintedBy, framedBy, printedBy, lowest, by256, numbered, groundLast, Breaks}
+use Rattle.display.proofs.Unique.{writeCall, selectCall, toggleCall, startCall, putCall, fillCall, paintCall, frameCall}
+use Rattle.display.proofs.Unique.{write-tie, select-tie, toggle-tie, start-tie, put-tie, fill-tie, paint-tie, frame-tie}
+use Rattle.host.proofs.Unique.{hostCall, host-tie}
+use Rattle.lines.specs.Sizes.{mostPrinted, outLen}
+use Rattle.lines.specs.Line.{zeros}
+use Rattle.laws.specs.Small.{grey, night, written, started, sizeless, selecting, blank, filled, white, clear, dim}
+use Rattle.laws.specs.Small.{bright, image, line, page, printed, replyWith, Paints, Frames, Hosts, Prints}
+use Rattle.laws.specs.Small.{Finishes, Feeds}
+use Rattle.laws.specs.Impostors.{TurnsDown, PrintsDown, untouched, andNot, stoppedStart, Rule, paintedBy}
+use Rattle.laws.specs.Impostors.{framedBy, printedBy, lowest, by256, numbered, groundLast, paintBy, frameBy}
+use Rattle.laws.specs.Impostors.{hostBy, lineBy, Breaks}
 use Rattle.laws.proofs.Small as small
 
 -- what differs by a number of it is not the same, as two lists are not that differ at a place
@@ -39,113 +46,158 @@ refused : {t u : Told} → u .answer ≡ done → TurnsDown (t .answer) → t �
 refused accepted down e = down (ap (λ (r : Told). r .answer) e ∙ accepted)
 
 module _ (t : Told) (down : TurnsDown (t .answer)) where
-  pub write-down : t ≡ writeOf fresh 0 1 → ⊥
-  write-down = refused small.write-accepted down
+  pub write-down : Meets writeCall (fresh, 0, 1) t → ⊥
+  write-down m = refused small.write-accepted down (tied-meets write-tie m)
 
-  pub select-down : t ≡ selectOf fresh 1 → ⊥
-  select-down = refused small.select-accepted down
+  pub select-down : Meets selectCall (fresh, 1) t → ⊥
+  select-down m = refused small.select-accepted down (tied-meets select-tie m)
 
-  pub toggle-down : t ≡ toggleOf fresh 1 → ⊥
-  toggle-down = refused small.toggle-accepted down
+  pub toggle-down : Meets toggleCall (fresh, 1) t → ⊥
+  toggle-down m = refused small.toggle-accepted down (tied-meets toggle-tie m)
 
-  pub start-down : t ≡ startOf (written grey) → ⊥
-  start-down = refused small.start-accepted down
+  pub start-down : Meets startCall (written grey) t → ⊥
+  start-down m = refused small.start-accepted down (tied-meets start-tie m)
 
-  pub put-down : t ≡ putOf selecting blank → ⊥
-  put-down = refused small.put-accepted down
+  pub put-down : (tables : List ℕ) → Meets putCall (selecting, blank, 7) (t, tables) → ⊥
+  put-down tables m = refused small.put-accepted down (pair-is .1 (tied-meets put-tie m) .0)
 
-  pub fill-down : t ≡ fillTold (started grey) filled → ⊥
-  fill-down = refused (small.fill-accepted .0) down
+  pub fill-down : (out : List ℕ) → Meets fillCall (started grey, filled) (t, out) → ⊥
+  fill-down out m = refused (small.fill-accepted .0) down (pair-is .1 (tied-meets fill-tie m) .0)
 
-  pub paint-down : t ≡ paintTold (started grey) 0 8 blank white filled → ⊥
-  paint-down = refused (small.paint-accepted white refl) down
+  pub paint-down : (out : List ℕ) → Meets paintCall (started grey, 0, 8, blank, white, filled) (t, out) → ⊥
+  paint-down out m = refused (small.paint-accepted white refl) down (pair-is .1 (tied-meets paint-tie m) .0)
 
-  pub frame-down : t ≡ frameTold (started grey) blank white filled → ⊥
-  frame-down = refused (small.frame-accepted white refl) down
+  pub frame-down : (out : List ℕ) → Meets frameCall (started grey, blank, white, filled) (t, out) → ⊥
+  frame-down out m = refused (small.frame-accepted white refl) down (pair-is .1 (tied-meets frame-tie m) .0)
 
-pub host-down : (answer : ℕ) → TurnsDown answer → answer ≡ hostAnswer image 1 blank white filled → ⊥
-host-down answer down e = down (e ∙ small.host-accepted white refl)
+pub host-down : (answer : ℕ) (out : List ℕ) → TurnsDown answer
+    → Meets hostCall (image, 1, blank, white, filled) (answer, out) → ⊥
+host-down answer out down m = down (pair-is .1 (tied-meets host-tie m) .0 ∙ small.host-accepted white refl)
 
-pub line-down : (out : List ℕ) → PrintsDown out → out ≡ printed white → ⊥
+printed-down : (n : ℕ) (out : List ℕ) → PrintsDown out → out ≡ printed n white → ⊥
 unfolding small.lineOpen over
-line-down out down e = down (ap (take 2) (e ∙ small.printed-white))
+printed-down n out down e = down (ap (take 2) (e ∙ small.printed-white n))
 
--- ---- "one that gives one fixed frame": it is not right on both of two inputs
+module _ (out : List ℕ) (down : PrintsDown out) where
+  pub line-down : Prints white out → ⊥
+  line-down m = printed-down mostPrinted out down (small.prints-is white m)
+
+  pub finish-down : Finishes white out → ⊥
+  finish-down m = printed-down outLen out down (small.finishes-is white m)
+
+  pub feed-down : Feeds white out → ⊥
+  feed-down m = printed-down outLen out down (small.feeds-is white small.feed-white m)
+
+-- ---- "one that gives one fixed frame": it does not meet the contract on both of two inputs
 
 -- an outcome that is the same for both
 not-both : (k : ℕ) {o x y : List ℕ} → (getD x k 0 ≡ getD y k 0 → ⊥) → o ≡ x → o ≡ y → ⊥
 not-both k ne p q = differ k ne (sym p ∙ q)
 
+-- of the white and the clear pictures
+one-frame : {o x y : List ℕ} → x ≡ 255 ∷ 255 ∷ 255 ∷ 255 ∷ [] → y ≡ 100 ∷ 100 ∷ 100 ∷ 255 ∷ [] → o ≡ x → o ≡ y → ⊥
+one-frame white clear p q = not-both 0 (λ (z : 255 ≡ 100). omega arith) (p ∙ white) (q ∙ clear)
+
+one-text : (n : ℕ) {out : List ℕ} → out ≡ printed n white → out ≡ printed n clear → ⊥
+unfolding small.lineOpen over
+one-text n p q = not-both 18 (λ (z : 70 ≡ 54). omega arith) (p ∙ small.printed-white n) (q ∙ small.printed-clear n)
+
 module _ (fixed : List ℕ) where
-  pub fill-fixed : fixed ≡ fillBytes (started grey) filled → fixed ≡ fillBytes (started night) filled → ⊥
-  fill-fixed p q = not-both 0 (λ (z : 100 ≡ 0). omega arith) (p ∙ small.grey-fill) (q ∙ small.night-fill)
+  pub fill-fixed : (t u : Told) → Meets fillCall (started grey, filled) (t, fixed)
+      → Meets fillCall (started night, filled) (u, fixed) → ⊥
+  fill-fixed t u m n =
+      not-both 0 (λ (z : 100 ≡ 0). omega arith)
+      (pair-is .1 (tied-meets fill-tie m) .1 ∙ small.grey-fill)
+      (pair-is .1 (tied-meets fill-tie n) .1 ∙ small.night-fill)
 
-  pub paint-fixed : fixed ≡ painted white → fixed ≡ painted clear → ⊥
-  paint-fixed p q =
-      not-both 0 (λ (z : 255 ≡ 100). omega arith) (p ∙ small.white-promised .paint) (q ∙ small.clear-promised .paint)
+  pub paint-fixed : Paints white fixed → Paints clear fixed → ⊥
+  paint-fixed m n =
+      one-frame (small.white-promised .paint) (small.clear-promised .paint) (small.paints-is m) (small.paints-is n)
 
-  pub frame-fixed : fixed ≡ framed white → fixed ≡ framed clear → ⊥
-  frame-fixed p q =
-      not-both 0 (λ (z : 255 ≡ 100). omega arith) (p ∙ small.white-promised .frame) (q ∙ small.clear-promised .frame)
+  pub frame-fixed : Frames white fixed → Frames clear fixed → ⊥
+  frame-fixed m n =
+      one-frame (small.white-promised .frame) (small.clear-promised .frame) (small.frames-is m) (small.frames-is n)
 
-  pub host-fixed : fixed ≡ hosted white → fixed ≡ hosted clear → ⊥
-  host-fixed p q =
-      not-both 0 (λ (z : 255 ≡ 100). omega arith) (p ∙ small.white-promised .host) (q ∙ small.clear-promised .host)
+  pub host-fixed : Hosts white fixed → Hosts clear fixed → ⊥
+  host-fixed m n =
+      one-frame (small.white-promised .host) (small.clear-promised .host) (small.hosts-is m) (small.hosts-is n)
 
-  pub line-fixed : fixed ≡ printed white → fixed ≡ printed clear → ⊥
-  unfolding small.lineOpen over
-  line-fixed p q = not-both 18 (λ (z : 70 ≡ 54). omega arith) (p ∙ small.printed-white) (q ∙ small.printed-clear)
+  pub line-fixed : Prints white fixed → Prints clear fixed → ⊥
+  line-fixed m n = one-text mostPrinted (small.prints-is white m) (small.prints-is clear n)
+
+  pub finish-fixed : Finishes white fixed → Finishes clear fixed → ⊥
+  finish-fixed m n =
+      one-text outLen (small.finishes-is white m) (small.finishes-is clear n)
+
+  pub feed-fixed : Feeds white fixed → Feeds clear fixed → ⊥
+  feed-fixed m n = one-text outLen (small.feeds-is white small.feed-white m) (small.feeds-is clear small.feed-clear n)
 
 -- ---- "one that touches nothing"
 
-pub write-untouched : untouched fresh ≡ writeOf fresh 0 1 → ⊥
-write-untouched = apart (λ (t : Told). getD (t .state .pending) 0 0) (λ (z : 0 ≡ 1). omega arith)
+pub write-untouched : Meets writeCall (fresh, 0, 1) (untouched fresh) → ⊥
+write-untouched m =
+    apart (λ (t : Told). getD (t .state .pending) 0 0) (λ (z : 0 ≡ 1). omega arith) (tied-meets write-tie m)
 
-pub select-untouched : untouched fresh ≡ selectOf fresh 1 → ⊥
-select-untouched = apart (λ (t : Told). t .state .selection) (λ (z : 0 ≡ 1). omega arith)
+pub select-untouched : Meets selectCall (fresh, 1) (untouched fresh) → ⊥
+select-untouched m =
+    apart (λ (t : Told). t .state .selection .number) (λ (z : 0 ≡ 1). omega arith) (tied-meets select-tie m)
 
-pub toggle-untouched : untouched fresh ≡ toggleOf fresh 1 → ⊥
-toggle-untouched = apart (λ (t : Told). t .state .errors) (λ (z : 0 ≡ 1). omega arith)
+pub toggle-untouched : Meets toggleCall (fresh, 1) (untouched fresh) → ⊥
+toggle-untouched m = apart (λ (t : Told). t .state .errors) (λ (z : 0 ≡ 1). omega arith) (tied-meets toggle-tie m)
 
-pub start-untouched : untouched (written grey) ≡ startOf (written grey) → ⊥
+pub start-untouched : Meets startCall (written grey) (untouched (written grey)) → ⊥
 unfolding small.wordsOpen
-start-untouched = apart (λ (t : Told). t .state .frame) (λ (z : 0 ≡ 1). omega arith)
+start-untouched m = apart (λ (t : Told). t .state .frame) (λ (z : 0 ≡ 1). omega arith) (tied-meets start-tie m)
 
 -- neither the state nor the tables stay as they were
-pub put-untouched : (untouched selecting ≡ putOf selecting blank → ⊥) × (blank ≡ putTables selecting blank 7 → ⊥)
+pub put-untouched : ((tables : List ℕ) → Meets putCall (selecting, blank, 7) (untouched selecting, tables) → ⊥)
+    × ((t : Told) → Meets putCall (selecting, blank, 7) (t, blank) → ⊥)
 unfolding kindAt
 put-untouched =
     let stored = put-done selecting blank 7 small.put-passes in (
-      λ e. apart (λ (t : Told). t .state .place) (λ (z : 0 ≡ 1). omega arith) (e ∙ sym (stored .0)),
-      λ e. let z : getD blank 1856 0 ≡ 7 =
-          ap (λ (l : List ℕ). getD l 1856 0) (e ∙ sym (stored .1)) ∙ getD-set-same blank 1856 7 0 (rw small.blank-long (omega arith)) in
+      λ tables m. apart (λ (t : Told). t .state .selection .place) (λ (z : 0 ≡ 1). omega arith)
+          (pair-is .1 (tied-meets put-tie m) .0 ∙ sym (stored .0)),
+      λ t m. let z : getD blank 1856 0 ≡ 7 =
+          ap (λ (l : List ℕ). getD l 1856 0) (pair-is .1 (tied-meets put-tie m) .1 ∙ sym (stored .1))
+          ∙ getD-set-same blank 1856 7 0 (rw small.blank-long (omega arith)) in
           omega (arith, small.blank-byte 1856 (omega arith)),
     )
 
-pub fill-untouched : filled ≡ fillBytes (started night) filled → ⊥
-fill-untouched e = differ 0 (λ (z : 100 ≡ 0). omega arith) (e ∙ small.night-fill)
+pub fill-untouched : (t : Told) → Meets fillCall (started night, filled) (t, filled) → ⊥
+fill-untouched t m = differ 0 (λ (z : 100 ≡ 0). omega arith) (pair-is .1 (tied-meets fill-tie m) .1 ∙ small.night-fill)
 
-pub paint-untouched : filled ≡ painted white → ⊥
-paint-untouched e = differ 0 (λ (z : 100 ≡ 255). omega arith) (e ∙ small.white-promised .paint)
+pub paint-untouched : Paints white filled → ⊥
+paint-untouched m = differ 0 (λ (z : 100 ≡ 255). omega arith) (small.paints-is m ∙ small.white-promised .paint)
 
-pub frame-untouched : filled ≡ framed white → ⊥
-frame-untouched e = differ 0 (λ (z : 100 ≡ 255). omega arith) (e ∙ small.white-promised .frame)
+pub frame-untouched : Frames white filled → ⊥
+frame-untouched m = differ 0 (λ (z : 100 ≡ 255). omega arith) (small.frames-is m ∙ small.white-promised .frame)
 
-pub host-untouched : filled ≡ hosted white → ⊥
-host-untouched e = differ 0 (λ (z : 100 ≡ 255). omega arith) (e ∙ small.white-promised .host)
+pub host-untouched : Hosts white filled → ⊥
+host-untouched m = differ 0 (λ (z : 100 ≡ 255). omega arith) (small.hosts-is m ∙ small.white-promised .host)
 
-pub line-untouched : page ≡ printed white → ⊥
-unfolding small.lineOpen over
-line-untouched e = differ 0 (λ (z : 0 ≡ 48). omega arith) (e ∙ small.printed-white)
+blank-page : (n : ℕ) → 0 < n → page n ≡ printed n white → ⊥
+unfolding small.lineOpen zeros over
+blank-page n some e =
+    differ 0 (λ (z : getD (page n) 0 0 ≡ 48). omega (arith, getD-replicate {A = ℕ} n 0 0 0 some))
+    (e ∙ small.printed-white n)
+
+pub line-untouched : Prints white (page mostPrinted) → ⊥
+line-untouched m = blank-page mostPrinted (omega arith) (small.prints-is white m)
+
+pub finish-untouched : Finishes white (page outLen) → ⊥
+finish-untouched m = blank-page outLen (omega arith) (small.finishes-is white m)
+
+pub feed-untouched : Feeds white (page outLen) → ⊥
+feed-untouched m = blank-page outLen (omega arith) (small.feeds-is white small.feed-white m)
 
 -- ---- errors of toggle and start
 
-pub toggle-and-not : andNot fresh 1 ≡ toggleOf fresh 1 → ⊥
-toggle-and-not = apart (λ (t : Told). t .state .errors) (λ (z : 0 ≡ 1). omega arith)
+pub toggle-and-not : Meets toggleCall (fresh, 1) (andNot fresh 1) → ⊥
+toggle-and-not m = apart (λ (t : Told). t .state .errors) (λ (z : 0 ≡ 1). omega arith) (tied-meets toggle-tie m)
 
-pub start-stopped : stoppedStart sizeless ≡ startOf sizeless → ⊥
+pub start-stopped : Meets startCall sizeless (stoppedStart sizeless) → ⊥
 unfolding small.wordsOpen
-start-stopped = apart (λ (t : Told). t .state .frame) (λ (z : 0 ≡ 1). omega arith)
+start-stopped m = apart (λ (t : Told). t .state .frame) (λ (z : 0 ≡ 1). omega arith) (tied-meets start-tie m)
 
 -- ---- other rules of painting
 
@@ -155,103 +207,125 @@ unfolding bandOf bandByte
 rule-is s a b out = refl
 
 -- the line with the white picture, with any tables of the right length
-abbrev Prints : Rule → List ℕ → Type 0
-Prints rule text = (t : List ℕ) → length t ≡ tablesLen → printedBy rule fresh t (line white) ≡ text
+abbrev Answers : Rule → List ℕ → Type 0
+Answers rule text = (t : List ℕ) → length t ≡ tablesLen → printedBy rule fresh t (line white) ≡ text
 
 -- with a frame x and a text y that are not the promised ones
-breaks : (rule : Rule) {x y : List ℕ} → framedBy rule (scene white) ≡ x → (x ≡ 255 ∷ 255 ∷ 255 ∷ 255 ∷ [] → ⊥) → Prints rule y
-    → (over y page ≡ over (small.replyWith (255 ∷ 255 ∷ 255 ∷ 255 ∷ [])) page → ⊥)
+breaks : (rule : Rule) {x y : List ℕ} → frameBy rule white ≡ x → (x ≡ 255 ∷ 255 ∷ 255 ∷ 255 ∷ [] → ⊥) → Answers rule y
+    → ((n : ℕ) → over y (page n) ≡ over (replyWith (255 ∷ 255 ∷ 255 ∷ 255 ∷ [])) (page n) → ⊥)
     → Breaks rule
 unfolding small.frameOpen
 breaks rule is wrong text wrong-text =
+    let wrong-line : (n : ℕ) → lineBy rule n white ≡ printed n white → ⊥ =
+    λ n e. wrong-text n (small.on-page n (sym (text blank small.blank-long)) ∙ e ∙ small.printed-white n) in
     record {
-      paint = λ e. wrong (sym is ∙ e ∙ small.white-promised .paint);
-      frame = λ e. wrong (sym is ∙ e ∙ small.white-promised .frame);
-      host = λ e. wrong (sym is ∙ ap (framedBy rule) (sym (small.host-scene white refl)) ∙ e ∙ small.white-promised .host);
-      line = λ e. wrong-text (small.on-page (sym (text blank small.blank-long)) ∙ e ∙ small.printed-white);
+      paint = λ m. wrong (sym is ∙ small.paints-is m ∙ small.white-promised .paint);
+      frame = λ m. wrong (sym is ∙ small.frames-is m ∙ small.white-promised .frame);
+      host = λ m. wrong (sym is ∙ ap (framedBy rule) (sym (small.host-scene white refl)) ∙ small.hosts-is m
+          ∙ small.white-promised .host);
+      line = λ m. wrong-line mostPrinted (small.prints-is white m);
+      finish = λ m. wrong-line outLen (small.finishes-is white m);
+      feed = λ m. wrong-line outLen (small.feeds-is white small.feed-white m);
     }
 
 -- the lowest layer alone: it is the dark one
-lowest-frame : framedBy lowest (scene white) ≡ 10 ∷ 20 ∷ 30 ∷ 255 ∷ []
+lowest-frame : frameBy lowest white ≡ 10 ∷ 20 ∷ 30 ∷ 255 ∷ []
 unfolding small.frameOpen bandLayers orderOf layersBelow layersAt keep through
 lowest-frame = refl
 
-lowest-text : Prints lowest (small.replyWith (10 ∷ 20 ∷ 30 ∷ 255 ∷ []))
+lowest-text : Answers lowest (replyWith (10 ∷ 20 ∷ 30 ∷ 255 ∷ []))
 unfolding small.lineOpen bandLayers orderOf layersBelow layersAt keep through
 lowest-text t long = rw (eq-eqb _ _ long)
 
 pub lowest-breaks : Breaks lowest
 unfolding small.lineOpen over
 lowest-breaks =
-    breaks lowest lowest-frame (differ 0 (λ (z : 10 ≡ 255). omega arith)) lowest-text (differ 18 (λ (z : 48 ≡ 70). omega arith))
+    breaks lowest lowest-frame (differ 0 (λ (z : 10 ≡ 255). omega arith)) lowest-text
+    (λ n. differ 18 (λ (z : 48 ≡ 70). omega arith))
 
 -- divided by 256: white is 254
-by256-frame : framedBy by256 (scene white) ≡ 254 ∷ 254 ∷ 254 ∷ 255 ∷ []
+by256-frame : frameBy by256 white ≡ 254 ∷ 254 ∷ 254 ∷ 255 ∷ []
 unfolding small.frameOpen
 by256-frame = refl
 
-by256-text : Prints by256 (small.replyWith (254 ∷ 254 ∷ 254 ∷ 255 ∷ []))
+by256-text : Answers by256 (replyWith (254 ∷ 254 ∷ 254 ∷ 255 ∷ []))
 unfolding small.lineOpen
 by256-text t long = rw (eq-eqb _ _ long)
 
 pub by256-breaks : Breaks by256
 unfolding small.lineOpen over
 by256-breaks =
-    breaks by256 by256-frame (differ 0 (λ (z : 254 ≡ 255). omega arith)) by256-text (differ 19 (λ (z : 69 ≡ 70). omega arith))
+    breaks by256 by256-frame (differ 0 (λ (z : 254 ≡ 255). omega arith)) by256-text
+    (λ n. differ 19 (λ (z : 69 ≡ 70). omega arith))
 
 -- layer number for depth: the dark layer lies on top
-numbered-frame : framedBy numbered (scene white) ≡ 10 ∷ 20 ∷ 30 ∷ 255 ∷ []
+numbered-frame : frameBy numbered white ≡ 10 ∷ 20 ∷ 30 ∷ 255 ∷ []
 unfolding small.frameOpen
 numbered-frame = refl
 
-numbered-text : Prints numbered (small.replyWith (10 ∷ 20 ∷ 30 ∷ 255 ∷ []))
+numbered-text : Answers numbered (replyWith (10 ∷ 20 ∷ 30 ∷ 255 ∷ []))
 unfolding small.lineOpen
 numbered-text t long = rw (eq-eqb _ _ long)
 
 pub numbered-breaks : Breaks numbered
 unfolding small.lineOpen over
 numbered-breaks =
-    breaks numbered numbered-frame (differ 0 (λ (z : 10 ≡ 255). omega arith)) numbered-text (differ 18 (λ (z : 48 ≡ 70). omega arith))
+    breaks numbered numbered-frame (differ 0 (λ (z : 10 ≡ 255). omega arith)) numbered-text
+    (λ n. differ 18 (λ (z : 48 ≡ 70). omega arith))
 
--- ---- the background last: it makes one frame of a dim and a bright faint colour, and is not right on both
+-- ---- the background last: it makes one frame of a dim and a bright faint colour, and does not meet the
+-- contract on both
 
 module _ (last : ℕ → ℕ → ℕ → ℕ) where
   abbrev rule : Rule
   rule = groundLast last
 
-  one-frame : framedBy rule (scene bright) ≡ framedBy rule (scene dim)
+  same-frame : frameBy rule bright ≡ frameBy rule dim
   unfolding small.frameOpen
-  one-frame = refl
+  same-frame = refl
 
-  one-text : (t : List ℕ) → length t ≡ tablesLen → printedBy rule fresh t (line bright) ≡ printedBy rule fresh t (line dim)
+  same-text : (t : List ℕ) → length t ≡ tablesLen
+      → printedBy rule fresh t (line bright) ≡ printedBy rule fresh t (line dim)
   unfolding small.lineOpen
-  one-text t long = rw (eq-eqb _ _ long)
+  same-text t long = rw (eq-eqb _ _ long)
 
-  of-host : (pictures : List ℕ) → length pictures ≡ 8 → framedBy rule (scene pictures) ≡ framedBy rule (hostScene pictures)
+  of-host : (pictures : List ℕ) → length pictures ≡ 8 → frameBy rule pictures ≡ hostBy rule pictures
   of-host pictures two = ap (framedBy rule) (sym (small.host-scene pictures two))
 
-  pub paint-ground-last : paintedBy rule (scene dim) 0 8 filled ≡ painted dim
-      → paintedBy rule (scene bright) 0 8 filled ≡ painted bright
-      → ⊥
+  -- one frame x that is promised of both
+  dim-bright : {x p q : List ℕ} → p ≡ 100 ∷ 100 ∷ 100 ∷ 255 ∷ [] → q ≡ 101 ∷ 101 ∷ 101 ∷ 255 ∷ [] → x ≡ p → x ≡ q → ⊥
+  dim-bright dims brights p q = not-both 0 (λ (z : 100 ≡ 101). omega arith) (p ∙ dims) (q ∙ brights)
+
+  pub paint-ground-last : Paints dim (paintBy rule dim) → Paints bright (paintBy rule bright) → ⊥
   unfolding small.frameOpen
-  paint-ground-last p q =
-      not-both 0 (λ (z : 100 ≡ 101). omega arith) (one-frame ∙ p ∙ small.dim-promised .paint) (q ∙ small.bright-promised .paint)
+  paint-ground-last m n =
+      dim-bright (small.dim-promised .paint) (small.bright-promised .paint) (same-frame ∙ small.paints-is m)
+      (small.paints-is n)
 
-  pub frame-ground-last : framedBy rule (scene dim) ≡ framed dim → framedBy rule (scene bright) ≡ framed bright → ⊥
-  frame-ground-last p q =
-      not-both 0 (λ (z : 100 ≡ 101). omega arith) (one-frame ∙ p ∙ small.dim-promised .frame) (q ∙ small.bright-promised .frame)
+  pub frame-ground-last : Frames dim (frameBy rule dim) → Frames bright (frameBy rule bright) → ⊥
+  frame-ground-last m n =
+      dim-bright (small.dim-promised .frame) (small.bright-promised .frame) (same-frame ∙ small.frames-is m)
+      (small.frames-is n)
 
-  pub host-ground-last : framedBy rule (hostScene dim) ≡ hosted dim → framedBy rule (hostScene bright) ≡ hosted bright → ⊥
-  host-ground-last p q =
-      not-both 0 (λ (z : 100 ≡ 101). omega arith)
-      (one-frame ∙ of-host dim refl ∙ p ∙ small.dim-promised .host)
-      (of-host bright refl ∙ q ∙ small.bright-promised .host)
+  pub host-ground-last : Hosts dim (hostBy rule dim) → Hosts bright (hostBy rule bright) → ⊥
+  host-ground-last m n =
+      dim-bright (small.dim-promised .host) (small.bright-promised .host)
+      (same-frame ∙ of-host dim refl ∙ small.hosts-is m) (of-host bright refl ∙ small.hosts-is n)
 
-  pub line-ground-last : over (printedBy rule fresh blank (line dim)) page ≡ printed dim
-      → over (printedBy rule fresh blank (line bright)) page ≡ printed bright
-      → ⊥
+  not-printed : (k : ℕ) → lineBy rule k dim ≡ printed k dim → lineBy rule k bright ≡ printed k bright → ⊥
   unfolding small.lineOpen over
-  line-ground-last p q =
+  not-printed k p q =
       not-both 19 (λ (z : 52 ≡ 53). omega arith)
-      (small.on-page (one-text blank small.blank-long) ∙ p ∙ small.printed-dim)
-      (q ∙ small.printed-bright)
+      (small.on-page k (same-text blank small.blank-long) ∙ p ∙ small.printed-dim k)
+      (q ∙ small.printed-bright k)
+
+  pub line-ground-last : Prints dim (lineBy rule mostPrinted dim) → Prints bright (lineBy rule mostPrinted bright) → ⊥
+  line-ground-last m n = not-printed mostPrinted (small.prints-is dim m) (small.prints-is bright n)
+
+  pub finish-ground-last : Finishes dim (lineBy rule outLen dim) → Finishes bright (lineBy rule outLen bright) → ⊥
+  finish-ground-last m n =
+      not-printed outLen (small.finishes-is dim m) (small.finishes-is bright n)
+
+  pub feed-ground-last : Feeds dim (lineBy rule outLen dim) → Feeds bright (lineBy rule outLen bright) → ⊥
+  feed-ground-last m n =
+      not-printed outLen (small.feeds-is dim small.feed-dim m) (small.feeds-is bright small.feed-bright n)

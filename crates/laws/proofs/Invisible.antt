@@ -12,18 +12,18 @@ use Rattle.lists.proofs.Cut.{length-cut, cut-low, cut-high}
 use Rattle.lists.proofs.Sum.{sum-cong, sum-room, sum-without}
 use Rattle.words.specs.declared.fields.Layer.{Layer}
 use Rattle.words.specs.Fields.{layerOf}
-use Rattle.words.specs.Check.{reservedBits}
+use Rattle.words.specs.Check.{reservedBits, Plain, Accepted}
 use Rattle.words.specs.Order.{here}
 use Rattle.words.specs.Pictures.{pictureLen, pictureLenAt, pictureStart, picturesLen}
-use Rattle.words.proofs.CheckLaws.{Plain, Accepted, accepted-check}
-use Rattle.paint.specs.Scene.{Scene}
-use Rattle.paint.specs.Pixel.{bankOf, indexOf, graphicsAt, pictureAt, ownAt, overAt}
-use Rattle.paint.specs.Band.{layerStep}
-use Rattle.paint.specs.Frame.{frameOf}
+use Rattle.frames.specs.Scene.{Scene}
+use Rattle.frames.specs.Pixel.{bankBytes, colourIndex, graphicsAt, pictureAt, ownAt, overAt}
+use Rattle.frames.specs.Band.{layerStep}
+use Rattle.frames.specs.Frame.{frameOf}
 use Rattle.laws.specs.Painting.{Ready, Clear, withOff, without}
-use Rattle.laws.proofs.LayerLaws.{atDepth, withOff-same, withOff-other, withOff-word, off-plain, set-plain, accepted-alike}
+use Rattle.laws.proofs.LayerLaws.{atDepth, withOff-same, withOff-other, withOff-word, off-plain, set-plain}
+use Rattle.laws.proofs.LayerLaws.{accepted-alike}
 use Rattle.laws.proofs.Bands.{bandBy-cong}
-use Rattle.laws.proofs.Pixels.{ready-accepted, picture-room, over-clear, over-same, frame-same}
+use Rattle.laws.proofs.Pixels.{picture-room, over-clear, over-same, frame-same}
 
 module _ (s : Scene) (n : ℕ) (ready : Ready s) (hn : n < 8) where
   abbrev w : List ℕ
@@ -33,15 +33,15 @@ module _ (s : Scene) (n : ℕ) (ready : Ready s) (hn : n < 8) where
   w′ = withOff (s .words) n
 
   acc : Accepted w
-  acc = ready-accepted s ready
+  acc = ready .accepted
 
   -- ---- the words without the layer are accepted
 
   off-n : layerOf w′ n .on ≡ true → ⊥
-  off-n e = true≢false (sym e ∙ ap (λ (l : Layer). l .on) (withOff-same w (acc .long) n hn))
+  off-n e = true≢false (sym e ∙ ap (λ (l : Layer). l .on) (withOff-same w (ready .long) n hn))
 
   other-m : (m : ℕ) → (m ≡ n → ⊥) → layerOf w′ m ≡ layerOf w m
-  other-m m ne = withOff-other w (acc .long) n m ne
+  other-m m ne = withOff-other w (ready .long) n m ne
 
   -- a layer that is on afterwards is another, and was on
   was : (m : ℕ) → layerOf w′ m .on ≡ true → layerOf w′ m ≡ layerOf w m
@@ -50,16 +50,17 @@ module _ (s : Scene) (n : ℕ) (ready : Ready s) (hn : n < 8) where
   plain : (k : ℕ) → k < 52 → Plain w′ k
   unfolding withOff
   plain =
-      set-plain w (4 + 6 * n) _ (acc .long) (acc .plain)
+      set-plain w (4 + 6 * n) _ (ready .long) (acc .plain)
       (off-plain (getD w (4 + 6 * n) 0) (getD reservedBits (4 + 6 * n) 0) (acc .plain (4 + 6 * n) (omega arith)))
 
   long : length w′ ≡ 52
   unfolding withOff
-  long = length-set w (4 + 6 * n) _ ∙ acc .long
+  long = length-set w (4 + 6 * n) _ ∙ ready .long
 
   acc′ : Accepted w′
   acc′ =
-      accepted-alike w w′ acc long plain (withOff-word w (acc .long) n 1 (omega arith)) (λ m o. ap (λ (l : Layer). atDepth l 0) (was m o))
+      accepted-alike w w′ acc plain (withOff-word w (ready .long) n 1 (omega arith))
+      (λ m o. ap (λ (l : Layer). atDepth l 0) (was m o))
       (λ m k hm hk om ok om′ ok′ d. acc .apart m k hm hk om ok
       (sym (ap (λ (l : Layer). l .depth) (was m om′)) ∙ d ∙ ap (λ (l : Layer). l .depth) (was k ok′)))
 
@@ -67,7 +68,7 @@ module _ (s : Scene) (n : ℕ) (ready : Ready s) (hn : n < 8) where
 
   len-n : pictureLenAt w′ n ≡ 0
   unfolding pictureLenAt pictureLen
-  len-n = ap pictureLen (withOff-same w (acc .long) n hn)
+  len-n = ap pictureLen (withOff-same w (ready .long) n hn)
 
   len-m : (m : ℕ) → (m ≡ n → ⊥) → pictureLenAt w′ m ≡ pictureLenAt w m
   unfolding pictureLenAt
@@ -93,10 +94,12 @@ module _ (s : Scene) (n : ℕ) (ready : Ready s) (hn : n < 8) where
   unfolding pictureStart picturesLen
   fits = rw (ready .pictures) (sum-room 8 n (pictureLenAt w) hn)
 
-  picture-same : (m k : ℕ) → (m ≡ n → ⊥) → k < pictureLenAt w m → getD (without s n .pictures) (pictureStart w′ m + k) 0 ≡ getD (s .pictures) (pictureStart w m + k) 0
+  picture-same : (m k : ℕ) → (m ≡ n → ⊥) → k < pictureLenAt w m
+      → getD (without s n .pictures) (pictureStart w′ m + k) 0 ≡ getD (s .pictures) (pictureStart w m + k) 0
   unfolding without
   picture-same m k ne h = ⊎-elim
-      (λ (lt : m < n). rw (start-below m lt) (cut-low (s .pictures) _ _ fits (pictureStart w m + k) (omega (arith, room m n lt))))
+      (λ (lt : m < n). rw (start-below m lt) (cut-low (s .pictures) _ _ fits (pictureStart w m + k)
+      (omega (arith, room m n lt))))
       (λ (ge : n ≤ m).
       let e : pictureStart w′ m + pictureLenAt w n ≡ pictureStart w m = start-above m (omega arith) in
       let r : pictureStart w n + pictureLenAt w n ≤ pictureStart w m = room n m (omega arith) in
@@ -106,19 +109,21 @@ module _ (s : Scene) (n : ℕ) (ready : Ready s) (hn : n < 8) where
 
   -- ---- the other layers show what they showed
 
-  bankOf-same : (kind m : ℕ) → bankOf w′ (s .tables) kind m ≡ bankOf w (s .tables) kind m
-  unfolding bankOf
-  bankOf-same kind m = rw (withOff-word w (acc .long) n 3 (omega arith))
+  bankBytes-same : (kind m : ℕ) → bankBytes w′ (s .tables) m kind ≡ bankBytes w (s .tables) m kind
+  unfolding bankBytes
+  bankBytes-same kind m = rw (withOff-word w (ready .long) n 3 (omega arith))
 
-  own-same : (m u v c : ℕ) → (m ≡ n → ⊥) → layerOf w m .on ≡ true → u < layerOf w m .width → v < layerOf w m .height → c < 4
-      → ownAt (without s n) m u v c ≡ ownAt s m u v c
-  unfolding ownAt without graphicsAt indexOf pictureAt
+  own-same : (m u v c : ℕ) → (m ≡ n → ⊥) → layerOf w m .on ≡ true → u < layerOf w m .width → v < layerOf w m .height
+      → c < 4
+      → ownAt (without s n) m v u c ≡ ownAt s m v u c
+  unfolding ownAt without graphicsAt colourIndex pictureAt
   own-same m u v c ne o hu hv hc =
-      rw (other-m m ne, bankOf-same 0 m, bankOf-same 1 m, bankOf-same 2 m, bankOf-same 3 m)
+      rw (other-m m ne, bankBytes-same 0 m, bankBytes-same 1 m, bankBytes-same 2 m, bankBytes-same 3 m)
       (pick-cong (layerOf w m .graphics) (λ t. refl)
       (λ f. picture-same m (4 * (v * layerOf w m .width + u) + c) ne (picture-room w m u v c o f hu hv hc)))
 
-  kept : (x y c d m p : ℕ) → c < 4 → (m ≡ n → ⊥) → layerStep w′ (overAt (without s n) x y c) d m p ≡ layerStep w (overAt s x y c) d m p
+  kept : (x y c d m p : ℕ) → c < 4 → (m ≡ n → ⊥)
+      → layerStep w′ (overAt (without s n) y x c) d m p ≡ layerStep w (overAt s y x c) d m p
   unfolding layerStep without
   kept x y c d m p hc ne =
       rw (other-m m ne)
@@ -130,31 +135,40 @@ module _ (s : Scene) (n : ℕ) (ready : Ready s) (hn : n < 8) where
 
   gone : (step : ℕ → ℕ → ℕ) (d p : ℕ) → layerStep w′ step d n p ≡ p
   unfolding layerStep
-  gone step d p = rw (withOff-same w (acc .long) n hn)
+  gone step d p = rw (withOff-same w (ready .long) n hn)
 
   module _ (clear : Clear s n) where
-    nothing : (x y c d p : ℕ) → layerStep w (overAt s x y c) d n p ≡ p
+    nothing : (x y c d p : ℕ) → layerStep w (overAt s y x c) d n p ≡ p
     unfolding layerStep
-    nothing x y c d p = pick-keeps (λ (z : ℕ). z ≡ p) (here (layerOf w n) d) _ p (λ t. over-clear s x y c n p clear) (λ f. refl)
+    nothing x y c d p =
+        pick-keeps (λ (z : ℕ). z ≡ p) (here (layerOf w n) d) _ p (λ t. over-clear s x y c n p clear) (λ f. refl)
 
-    step-same : (x y c d m p : ℕ) → c < 4 → layerStep w′ (overAt (without s n) x y c) d m p ≡ layerStep w (overAt s x y c) d m p
+    step-same : (x y c d m p : ℕ) → c < 4
+        → layerStep w′ (overAt (without s n) y x c) d m p ≡ layerStep w (overAt s y x c) d m p
     step-same x y c d m p hc = ⊎-elim
         (λ (e : m ≡ n). rw e (gone _ d p ∙ sym (nothing x y c d p)))
         (λ (ne : m ≡ n → ⊥). kept x y c d m p hc ne)
         (same-or m n)
 
-    -- the settings are still accepted, the pictures have the right length, and no byte of the frame
-    -- changes
-    pub invisible : Ready (without s n) × (frameOf (without s n) ≡ frameOf s)
+    withdrawn : Ready (without s n) × (frameOf (without s n) ≡ frameOf s)
     unfolding without
-    invisible = (
+    withdrawn = (
       record {
-        long = acc′ .long;
-        accepted = accepted-check w′ acc′;
-        shown = rw (withOff-word w (acc .long) n 0 (omega arith)) (ready .shown);
+        long = long;
+        accepted = acc′;
+        shown = rw (withOff-word w (ready .long) n 0 (omega arith)) (ready .shown);
         tables = ready .tables;
-        pictures = omega (arith, length-cut (s .pictures) (pictureStart w n) (pictureLenAt w n) fits, total, ready .pictures);
+        pictures =
+            let c = length-cut (s .pictures) (pictureStart w n) (pictureLenAt w n) fits in
+            omega (arith, c, total, ready .pictures);
       },
-      frame-same s (without s n) (λ k h. withOff-word w (acc .long) n k (omega arith))
-          (λ x y c p hc. bandBy-cong w′ w (overAt (without s n) x y c) (overAt s x y c) 0 8 p (λ d m r hm. step-same x y c d m r hc)),
+      frame-same s (without s n) (λ k h. withOff-word w (ready .long) n k (omega arith))
+          (λ x y c p hc. bandBy-cong w′ w (overAt (without s n) y x c) (overAt s y x c) 0 8 p
+          (λ d m r hm. step-same x y c d m r hc)),
     )
+
+-- the law: the settings are still accepted, the pictures have the right length, and no byte of the frame
+-- changes
+pub invisible : (s : Scene) (n : ℕ) → n < 8 → Ready s → Clear s n
+    → Ready (without s n) × (frameOf (without s n) ≡ frameOf s)
+invisible s n hn ready clear = withdrawn s n ready hn clear

@@ -13,9 +13,8 @@ use Rattle.lists.proofs.Choice.{same-or}
 use Rattle.lists.proofs.First.{first-each}
 use Rattle.words.specs.declared.fields.Layer.{Layer}
 use Rattle.words.specs.Fields.{widthOf, heightOf, decode, layerOf}
-use Rattle.words.specs.Check.{reservedBits}
-use Rattle.words.proofs.CheckLaws.{Placed, Plain, Accepted}
-use Rattle.laws.specs.Painting.{depthWord, withDepth, withOff}
+use Rattle.words.specs.Check.{reservedBits, Placed, Plain, Accepted}
+use Rattle.laws.specs.Painting.{layerWith, depthWord, withDepth, withOff}
 
 pub depth-lt : (w : List ℕ) (n : ℕ) → layerOf w n .depth < 8
 unfolding layerOf
@@ -29,40 +28,13 @@ pub target-le : (w : List ℕ) (n : ℕ) → layerOf w n .target ≤ 255
 unfolding layerOf
 target-le w n = omega arith
 
--- a layer at another depth, and a layer switched off
+-- a layer at another depth
 abbrev pub atDepth : Layer → ℕ → Layer
-atDepth l d =
-    record {
-      on = l .on;
-      graphics = l .graphics;
-      depth = d;
-      global = l .global;
-      value = l .value;
-      x = l .x;
-      y = l .y;
-      width = l .width;
-      height = l .height;
-      start = l .start;
-      length = l .length;
-      target = l .target;
-    }
+atDepth l d = layerWith (l .on) d l l
 
+-- a layer switched off
 abbrev pub switchedOff : Layer → Layer
-switchedOff l =
-    record {
-      on = false;
-      graphics = l .graphics;
-      depth = l .depth;
-      global = l .global;
-      value = l .value;
-      x = l .x;
-      y = l .y;
-      width = l .width;
-      height = l .height;
-      start = l .start;
-      length = l .length;
-      target = l .target;
-    }
+switchedOff l = layerWith false (l .depth) l l
 
 -- the same layer, but for its depth
 abbrev pub Alike : Layer → Layer → Type 0
@@ -71,7 +43,8 @@ Alike l k = atDepth l 0 ≡ atDepth k 0
 -- ---- one word replaced
 
 -- a word that is none of layer m's six
-pub layer-other : (w : List ℕ) (k m v : ℕ) → ((j : ℕ) → 4 ≤ j → j ≤ 9 → j + 6 * m ≡ k → ⊥) → layerOf (set w k v) m ≡ layerOf w m
+pub layer-other : (w : List ℕ) (k m v : ℕ) → ((j : ℕ) → 4 ≤ j → j ≤ 9 → j + 6 * m ≡ k → ⊥)
+    → layerOf (set w k v) m ≡ layerOf w m
 unfolding layerOf
 layer-other w k m v ne =
     rw (
@@ -84,7 +57,9 @@ layer-other w k m v ne =
     )
 
 layer-same : (w : List ℕ) (n v : ℕ) → n < 8 → length w ≡ 52
-    → layerOf (set w (4 + 6 * n) v) n ≡ decode v (getD w (5 + 6 * n) 0) (getD w (6 + 6 * n) 0) (getD w (7 + 6 * n) 0) (getD w (8 + 6 * n) 0) (getD w (9 + 6 * n) 0)
+    → layerOf (set w (4 + 6 * n) v) n
+    ≡ decode v (getD w (5 + 6 * n) 0) (getD w (6 + 6 * n) 0) (getD w (7 + 6 * n) 0) (getD w (8 + 6 * n) 0)
+    (getD w (9 + 6 * n) 0)
 unfolding layerOf
 layer-same w n v h long =
     rw (
@@ -123,7 +98,11 @@ module _ (w : List ℕ) (long : length w ≡ 52) where
   unfolding withDepth layerOf
   withDepth-same n d h hd =
       layer-same w n _ h long
-      ∙ rw (depth-on (getD w (4 + 6 * n) 0) d hd, depth-graphics (getD w (4 + 6 * n) 0) d hd, depth-depth (getD w (4 + 6 * n) 0) d hd)
+      ∙ rw (
+        depth-on (getD w (4 + 6 * n) 0) d hd,
+        depth-graphics (getD w (4 + 6 * n) 0) d hd,
+        depth-depth (getD w (4 + 6 * n) 0) d hd,
+      )
 
   pub withDepth-other : (n d m : ℕ) → (m ≡ n → ⊥) → layerOf (withDepth w n d) m ≡ layerOf w m
   unfolding withDepth
@@ -154,8 +133,12 @@ pub depth-plain : (v d M : ℕ) → d < 8 → M / 256 % 8 ≡ 0 → bitAnd v M �
 depth-plain v d M h m e =
     let p : depthWord v d % 256 ≡ v % 256 = omega arith in
     let q : depthWord v d / 2048 ≡ v / 2048 = omega arith in
-    let a : bitAnd (depthWord v d) M % 256 ≡ 0 = and-mod (depthWord v d) M 8 ∙ ap (λ (z : ℕ). bitAnd z (M % 256)) p ∙ sym (and-mod v M 8) ∙ ap (λ (z : ℕ). z % 256) e in
-    let b : bitAnd (depthWord v d) M / 2048 ≡ 0 = and-shr (depthWord v d) M 11 ∙ ap (λ (z : ℕ). bitAnd z (M / 2048)) q ∙ sym (and-shr v M 11) ∙ ap (λ (z : ℕ). z / 2048) e in
+    let a : bitAnd (depthWord v d) M % 256 ≡ 0 =
+    and-mod (depthWord v d) M 8 ∙ ap (λ (z : ℕ). bitAnd z (M % 256)) p ∙ sym (and-mod v M 8)
+    ∙ ap (λ (z : ℕ). z % 256) e in
+    let b : bitAnd (depthWord v d) M / 2048 ≡ 0 =
+    and-shr (depthWord v d) M 11 ∙ ap (λ (z : ℕ). bitAnd z (M / 2048)) q ∙ sym (and-shr v M 11)
+    ∙ ap (λ (z : ℕ). z / 2048) e in
     let c : bitAnd (depthWord v d) M / 256 % 8 ≡ 0 =
     ap (λ (z : ℕ). z % 8) (and-shr (depthWord v d) M 8) ∙ and-mod (depthWord v d / 256) (M / 256) 3
     ∙ ap (λ (z : ℕ). bitAnd (depthWord v d / 256 % 8) z) m ∙ and-zero-r (depthWord v d / 256 % 8) in
@@ -168,8 +151,10 @@ pub off-plain : (v M : ℕ) → bitAnd v M ≡ 0 → bitAnd (v / 2 * 2) M ≡ 0
 off-plain v M e =
     let p : v / 2 * 2 % 2 ≡ 0 = omega arith in
     let q : v / 2 * 2 / 2 ≡ v / 2 = omega arith in
-    let a : bitAnd (v / 2 * 2) M % 2 ≡ 0 = and-mod (v / 2 * 2) M 1 ∙ ap (λ (z : ℕ). bitAnd z (M % 2)) p ∙ and-zero-l (M % 2) in
-    let b : bitAnd (v / 2 * 2) M / 2 ≡ 0 = and-shr (v / 2 * 2) M 1 ∙ ap (λ (z : ℕ). bitAnd z (M / 2)) q ∙ sym (and-shr v M 1) ∙ ap (λ (z : ℕ). z / 2) e in
+    let a : bitAnd (v / 2 * 2) M % 2 ≡ 0 =
+    and-mod (v / 2 * 2) M 1 ∙ ap (λ (z : ℕ). bitAnd z (M % 2)) p ∙ and-zero-l (M % 2) in
+    let b : bitAnd (v / 2 * 2) M / 2 ≡ 0 =
+    and-shr (v / 2 * 2) M 1 ∙ ap (λ (z : ℕ). bitAnd z (M / 2)) q ∙ sym (and-shr v M 1) ∙ ap (λ (z : ℕ). z / 2) e in
     zero-of (bitAnd (v / 2 * 2) M) a b
   where
     zero-of : (r : ℕ) → r % 2 ≡ 0 → r / 2 ≡ 0 → r ≡ 0
@@ -191,18 +176,19 @@ set-plain w k v long c e i h = ⊎-elim
 -- ---- still accepted
 
 -- plain words on the same screen, whose enabled layers lie where they did and have a depth each
-pub accepted-alike : (w w′ : List ℕ) → Accepted w → length w′ ≡ 52 → ((i : ℕ) → i < 52 → Plain w′ i) → getD w′ 1 0 ≡ getD w 1 0
+pub accepted-alike : (w w′ : List ℕ) → Accepted w → ((i : ℕ) → i < 52 → Plain w′ i) → getD w′ 1 0 ≡ getD w 1 0
     → ((n : ℕ) → layerOf w′ n .on ≡ true → Alike (layerOf w′ n) (layerOf w n))
-    → ((n m : ℕ) → n < 8 → m < 8 → layerOf w n .on ≡ true → layerOf w m .on ≡ true → layerOf w′ n .on ≡ true → layerOf w′ m .on ≡ true
+    → ((n m : ℕ) → n < 8 → m < 8 → layerOf w n .on ≡ true → layerOf w m .on ≡ true
+    → layerOf w′ n .on ≡ true → layerOf w′ m .on ≡ true
     → layerOf w′ n .depth ≡ layerOf w′ m .depth → n ≡ m) → Accepted w′
-accepted-alike w w′ acc long plain one alike apart =
+accepted-alike w w′ acc plain one alike apart =
     record {
-      long = long;
       plain = plain;
       wide = rw one (acc .wide);
       tall = rw one (acc .tall);
       placed = λ n h o. rw one (un-deep (layerOf w′ n)
-          (subst (λ (l : Layer). Placed (widthOf w) (heightOf w) l) (sym (alike n o)) (re-deep (acc .placed n h (was n o)))));
+          (subst (λ (l : Layer). Placed (widthOf w) (heightOf w) l) (sym (alike n o))
+          (re-deep (acc .placed n h (was n o)))));
       apart = λ n m hn hm on om d. apart n m hn hm (was n on) (was m om) on om d;
     }
   where

@@ -7,6 +7,7 @@ pub mod Exchange
 pub mod Opaque
 pub mod Invisible
 pub mod Between
+pub mod Calls
 pub mod Worked
 pub mod Figures
 pub mod States

@@ -15,34 +15,38 @@ use Rattle.words.specs.declared.fields.Layer.{Layer}
 use Rattle.words.specs.Fields.{layerOf}
 use Rattle.words.specs.Order.{here}
 use Rattle.words.specs.Pictures.{pictureLen, pictureLenAt, pictureStart}
-use Rattle.paint.specs.Scene.{Scene}
-use Rattle.paint.specs.Pixel.{bankOf, indexOf, graphicsAt, pictureAt, ownAt, alphaAt, covers, overAt}
-use Rattle.paint.specs.Band.{layerStep, depthStep, pixelAt}
-use Rattle.paint.proofs.LineLaws.{covers-covered, over-inside}
-use Rattle.laws.specs.Painting.{Ready, IsLayer, OnScreen, channelAt, ownOver, OpaqueAt, SameAt, From, AgreeFrom, OtherUnder}
+use Rattle.frames.specs.Scene.{Scene}
+use Rattle.frames.specs.Pixel.{bankBytes, colourIndex, graphicsAt, pictureAt, ownAt, alphaAt, covers, overAt}
+use Rattle.frames.specs.Band.{layerStep, depthStep, pixelAt}
+use Rattle.frames.proofs.PixelLaws.{covers-covered, over-inside}
+use Rattle.laws.specs.Painting.{Ready, IsLayer, OnScreen, channelAt, ownOver, OpaqueAt, OtherUnder}
+use Rattle.laws.specs.Wider.{SameAt, From, AgreeFrom}
 use Rattle.laws.proofs.LayerLaws.{depth-lt}
 use Rattle.laws.proofs.Bands.{bandBy-forgets, depthStep-only}
-use Rattle.laws.proofs.Pixels.{ready-accepted, picture-room, across-lt, channelAt-is}
+use Rattle.laws.proofs.Pixels.{picture-room, across-lt, channelAt-is}
 
 -- ---- the law
 
 -- layers that show the same at a pixel are the same over it
-over-shows : (s t : Scene) (m x y c p : ℕ) → SameAt s t m x y → c < 3 → overAt t x y c m p ≡ overAt s x y c m p
+over-shows : (s t : Scene) (m x y c p : ℕ) → SameAt s t m y x → c < 3 → overAt t y x c m p ≡ overAt s y x c m p
 unfolding overAt
 over-shows s t m x y c p e hc =
-    rw (ap (λ (l : Layer). covers l x y) (e .layer))
-    (pick-cong (covers (layerOf (s .words) m) x y)
+    rw (ap (λ (l : Layer). covers l y x) (e .layer))
+    (pick-cong (covers (layerOf (s .words) m) y x)
     (λ k. ap₂ (λ (a o : ℕ). blendOf a o p) (e .alpha k) (e .own k c hc)) (λ f. refl))
 
-module _ (s t : Scene) (n x y : ℕ) (rs : Ready s) (rt : Ready t) (o : OpaqueAt s n x y) (agree : AgreeFrom s t (layerOf (s .words) n .depth) x y) where
+module _ (s t : Scene) (n x y : ℕ) (rs : Ready s) (rt : Ready t) (o : OpaqueAt s n y x)
+    (agree : AgreeFrom s t (layerOf (s .words) n .depth) y x) where
   abbrev d : ℕ
   d = layerOf (s .words) n .depth
 
-  above : (c e m q : ℕ) → c < 3 → d < e → m < 8 → layerStep (s .words) (overAt s x y c) e m q ≡ layerStep (t .words) (overAt t x y c) e m q
+  above : (c e m q : ℕ) → c < 3 → d < e → m < 8
+      → layerStep (s .words) (overAt s y x c) e m q ≡ layerStep (t .words) (overAt t y x c) e m q
   unfolding layerStep
   above c e m q hc h hm = go (here (layerOf (s .words) m) e) refl (here (layerOf (t .words) m) e) refl
     where
-      same : SameAt s t m x y → pick (here (layerOf (s .words) m) e) (overAt s x y c m q) q ≡ pick (here (layerOf (t .words) m) e) (overAt t x y c m q) q
+      same : SameAt s t m y x → pick (here (layerOf (s .words) m) e) (overAt s y x c m q) q
+          ≡ pick (here (layerOf (t .words) m) e) (overAt t y x c m q) q
       same z = rw (over-shows s t m x y c q z hc, z .layer)
 
       from : (k : Scene) → here (layerOf (k .words) m) e ≡ true → From (k .words) d m
@@ -51,37 +55,47 @@ module _ (s t : Scene) (n x y : ℕ) (rs : Ready s) (rt : Ready t) (o : OpaqueAt
           record { layer = record { number = hm; on = both-left _ _ p }; depth = omega arith }
 
       go : (a : Bool) → here (layerOf (s .words) m) e ≡ a → (b : Bool) → here (layerOf (t .words) m) e ≡ b
-          → pick (here (layerOf (s .words) m) e) (overAt s x y c m q) q ≡ pick (here (layerOf (t .words) m) e) (overAt t x y c m q) q
+          → pick (here (layerOf (s .words) m) e) (overAt s y x c m q) q
+          ≡ pick (here (layerOf (t .words) m) e) (overAt t y x c m q) q
       go true p b r = same (agree .layers m (inl (from s p)))
       go false p true r = same (agree .layers m (inr (from t r)))
       go false p false r = rw (p, r)
 
-  itself : SameAt s t n x y
+  itself : SameAt s t n y x
   itself = agree .layers n (inl (record { layer = o .layer; depth = omega arith }))
 
   there : IsLayer (t .words) n
   there = record { number = o .layer .number; on = ap (λ (l : Layer). l .on) (itself .layer) ∙ o .layer .on }
 
-  full : (c q : ℕ) → overAt s x y c n q ≡ ownOver s n x y c
+  full : (c q : ℕ) → overAt s y x c n q ≡ ownOver s n y x c
   full c q = over-inside s x y c n q (covers-covered _ x y (o .covering)) ∙ rw (o .full) (blendOf-opaque _ q)
 
-  at-depth : (c q q′ : ℕ) → c < 3 → depthStep (s .words) (overAt s x y c) d q ≡ depthStep (t .words) (overAt t x y c) d q′
+  at-depth : (c q q′ : ℕ) → c < 3
+      → depthStep (s .words) (overAt s y x c) d q ≡ depthStep (t .words) (overAt t y x c) d q′
   at-depth c q q′ hc =
-      depthStep-only (s .words) (overAt s x y c) n _ q (ready-accepted s rs) (o .layer) refl ∙ full c q ∙ sym (full c q′)
+      depthStep-only (s .words) (overAt s y x c) n _ q (rs .accepted) (o .layer) refl ∙ full c q ∙ sym (full c q′)
       ∙ sym (over-shows s t n x y c q′ itself hc)
-      ∙ sym (depthStep-only (t .words) (overAt t x y c) n _ q′ (ready-accepted t rt) there (ap (λ (l : Layer). l .depth) (itself .layer)))
+      ∙ sym (depthStep-only (t .words) (overAt t y x c) n _ q′ (rt .accepted) there
+      (ap (λ (l : Layer). l .depth) (itself .layer)))
 
   -- whatever is under it, p or p′
-  opaque-pixel : (c p p′ : ℕ) → c < 3 → pixelAt s x y c 0 8 p ≡ pixelAt t x y c 0 8 p′
+  opaque-pixel : (c p p′ : ℕ) → c < 3 → pixelAt s y x c 0 8 p ≡ pixelAt t y x c 0 8 p′
   opaque-pixel c p p′ hc =
-      bandBy-forgets (s .words) (t .words) (overAt s x y c) (overAt t x y c) 0 8 d p p′ (omega arith) (depth-lt (s .words) n)
+      bandBy-forgets (s .words) (t .words) (overAt s y x c) (overAt t y x c) 0 8 d p p′ (omega arith)
+      (depth-lt (s .words) n)
       (λ q q′. at-depth c q q′ hc) (λ e m q h hm. above c e m q hc h hm)
 
-  -- the frame's channels there are the same, whatever the background and whatever lies under the layer
-  pub opaque : (c : ℕ) → OnScreen (s .words) x y c → channelAt t x y c ≡ channelAt s x y c
-  opaque c on =
-      channelAt-is t (rt .shown) x y c (record { across = rw (agree .size) (on .across); down = rw (agree .size) (on .down); channel = on .channel })
+  channel-same : (c : ℕ) → OnScreen (s .words) y x c → channelAt t y x c ≡ channelAt s y x c
+  channel-same c on =
+      channelAt-is t (rt .shown) x y c
+      (record { across = rw (agree .size) (on .across); down = rw (agree .size) (on .down); channel = on .channel })
       ∙ sym (opaque-pixel c _ _ (on .channel)) ∙ sym (channelAt-is s (rs .shown) x y c on)
+
+-- the frame's channels there are the same, whatever the background and whatever lies under the layer
+pub opaque : (s t : Scene) (n y x c : ℕ) → Ready s → Ready t → OpaqueAt s n y x
+    → AgreeFrom s t (layerOf (s .words) n .depth) y x → OnScreen (s .words) y x c
+    → channelAt t y x c ≡ channelAt s y x c
+opaque s t n y x c rs rt o agree on = channel-same s t n x y rs rt o agree c on
 
 -- ---- in the demand's own words: another background, other pixels and alphas under the layer
 
@@ -98,9 +112,10 @@ module _ (s t : Scene) (d : ℕ) (other : OtherUnder s t d) where
   unfolding pictureStart
   pictureStart-same m h = sum-cong m _ _ (λ k lt. pictureLen-same k (omega arith))
 
-  bankOf-same : (m kind : ℕ) → m < 8 → d ≤ layerOf (s .words) m .depth → bankOf (t .words) (t .tables) kind m ≡ bankOf (s .words) (s .tables) kind m
-  unfolding bankOf
-  bankOf-same m kind h ge = rw (other .banks) (other .tables m kind h ge)
+  bankBytes-same : (m kind : ℕ) → m < 8 → d ≤ layerOf (s .words) m .depth
+      → bankBytes (t .words) (t .tables) m kind ≡ bankBytes (s .words) (s .tables) m kind
+  unfolding bankBytes
+  bankBytes-same m kind h ge = rw (other .banks) (other .tables m kind h ge)
 
   -- a layer from d on in either scene is one in s
   from-s : (m : ℕ) → From (s .words) d m ⊎ From (t .words) d m → From (s .words) d m
@@ -109,7 +124,8 @@ module _ (s t : Scene) (d : ℕ) (other : OtherUnder s t d) where
       deep : From (t .words) d m → d ≤ layerOf (s .words) m .depth
       deep f = ⊎-elim
           (λ (lt : layerOf (s .words) m .depth < d).
-          let e : layerOf (t .words) m .depth ≡ layerOf (s .words) m .depth = ap (λ (l : Layer). l .depth) (other .under m (f .layer .number) lt) in
+          let e : layerOf (t .words) m .depth ≡ layerOf (s .words) m .depth =
+          ap (λ (l : Layer). l .depth) (other .under m (f .layer .number) lt) in
           omega (arith, f .depth))
           (λ (ge : d ≤ layerOf (s .words) m .depth). ge)
           (split (layerOf (s .words) m .depth) d)
@@ -117,40 +133,48 @@ module _ (s t : Scene) (d : ℕ) (other : OtherUnder s t d) where
       back : From (t .words) d m → From (s .words) d m
       back f =
           let e = other .above m (f .layer .number) (deep f) in
-          record { layer = record { number = f .layer .number; on = sym (ap (λ (l : Layer). l .on) e) ∙ f .layer .on }; depth = deep f }
+          record {
+            layer = record { number = f .layer .number; on = sym (ap (λ (l : Layer). l .on) e) ∙ f .layer .on };
+            depth = deep f;
+          }
 
-  own-same : (m u v c : ℕ) → From (s .words) d m → u < layerOf (s .words) m .width → v < layerOf (s .words) m .height → c < 4 → ownAt t m u v c ≡ ownAt s m u v c
-  unfolding ownAt graphicsAt indexOf pictureAt
+  own-same : (m u v c : ℕ) → From (s .words) d m → u < layerOf (s .words) m .width
+      → v < layerOf (s .words) m .height → c < 4 → ownAt t m v u c ≡ ownAt s m v u c
+  unfolding ownAt graphicsAt colourIndex pictureAt
   own-same m u v c f hu hv hc =
       let hm = f .layer .number in
       rw (
         other .above m hm (f .depth),
         pictureStart-same m hm,
-        bankOf-same m 0 hm (f .depth),
-        bankOf-same m 1 hm (f .depth),
-        bankOf-same m 2 hm (f .depth),
-        bankOf-same m 3 hm (f .depth),
+        bankBytes-same m 0 hm (f .depth),
+        bankBytes-same m 1 hm (f .depth),
+        bankBytes-same m 2 hm (f .depth),
+        bankBytes-same m 3 hm (f .depth),
       )
       (pick-cong (layerOf (s .words) m .graphics) (λ g. refl)
-      (λ g. other .pictures m (4 * (v * layerOf (s .words) m .width + u) + c) hm (f .depth) (picture-room (s .words) m u v c (f .layer .on) g hu hv hc)))
+      (λ g. other .pictures m (4 * (v * layerOf (s .words) m .width + u) + c) hm (f .depth)
+      (picture-room (s .words) m u v c (f .layer .on) g hu hv hc)))
 
-  alpha-same : (m u v : ℕ) → From (s .words) d m → u < layerOf (s .words) m .width → v < layerOf (s .words) m .height → alphaAt t m u v ≡ alphaAt s m u v
+  alpha-same : (m u v : ℕ) → From (s .words) d m → u < layerOf (s .words) m .width
+      → v < layerOf (s .words) m .height → alphaAt t m v u ≡ alphaAt s m v u
   unfolding alphaAt
-  alpha-same m u v f hu hv = rw (own-same m u v 3 f hu hv (omega arith), other .above m (f .layer .number) (f .depth), other .frame)
+  alpha-same m u v f hu hv =
+      rw (own-same m u v 3 f hu hv (omega arith), other .above m (f .layer .number) (f .depth), other .frame)
 
-  pub under-agrees : (x y : ℕ) → AgreeFrom s t d x y
+  pub under-agrees : (x y : ℕ) → AgreeFrom s t d y x
   under-agrees x y = record { size = other .size; layers = λ m e. same m (from-s m e) }
     where
-      same : (m : ℕ) → From (s .words) d m → SameAt s t m x y
+      same : (m : ℕ) → From (s .words) d m → SameAt s t m y x
       same m f =
           let e = other .above m (f .layer .number) (f .depth) in
           record {
             layer = e;
             alpha = λ k. let i = across-lt (layerOf (s .words) m) x y k in rw e (alpha-same m _ _ f (i .0) (i .1));
-            own = λ k c hc. let i = across-lt (layerOf (s .words) m) x y k in rw e (own-same m _ _ c f (i .0) (i .1) (omega arith));
+            own = λ k c hc. let i = across-lt (layerOf (s .words) m) x y k in
+                rw e (own-same m _ _ c f (i .0) (i .1) (omega arith));
           }
 
-pub opaque-under : (s t : Scene) (n x y c : ℕ) → Ready s → Ready t → OpaqueAt s n x y → OtherUnder s t (layerOf (s .words) n .depth) → OnScreen (s .words) x y c
-    → channelAt t x y c ≡ channelAt s x y c
-opaque-under s t n x y c rs rt o other on =
-    opaque s t n x y rs rt o (under-agrees s t (layerOf (s .words) n .depth) other x y) c on
+pub opaque-under : (s t : Scene) (n y x c : ℕ) → Ready s → Ready t → OpaqueAt s n y x
+    → OtherUnder s t (layerOf (s .words) n .depth) → OnScreen (s .words) y x c → channelAt t y x c ≡ channelAt s y x c
+opaque-under s t n y x c rs rt o other on =
+    opaque s t n y x c rs rt o (under-agrees s t (layerOf (s .words) n .depth) other x y) on

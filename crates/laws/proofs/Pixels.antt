@@ -19,26 +19,25 @@ use Rattle.mix.proofs.BlendLaws.{blendOf-clear}
 use Rattle.words.specs.declared.fields.Layer.{Layer}
 use Rattle.words.specs.Fields.{shownOf, widthOf, heightOf, groundOf, layerOf}
 use Rattle.words.specs.Pictures.{pictureLen, pictureLenAt, pictureStart, picturesLen}
-use Rattle.words.proofs.CheckLaws.{Accepted, check-accepted, accepted-check}
+use Rattle.words.specs.Check.{Accepted}
 use Rattle.draw.specs.Drawing.{endedOf}
-use Rattle.paint.specs.Scene.{Scene}
-use Rattle.paint.specs.Pixel.{bankOf, indexOf, graphicsAt, pictureAt, ownAt, fadedOf, alphaAt, covers, overAt}
-use Rattle.paint.specs.Band.{pixelAt, bandByte, bandOf, missing, markAt}
-use Rattle.paint.specs.Frame.{frameLen, paintRefusal, refusalOf, fillByte, fillOf, frameOf}
-use Rattle.paint.proofs.LineLaws.{Covered, covers-covered, covered-covers, row-room, over-inside, over-outside}
+use Rattle.frames.specs.Scene.{Scene}
+use Rattle.frames.specs.Pixel.{bankBytes, colourIndex, graphicsAt, pictureAt, ownAt, fadedOf, alphaAt, covers, overAt}
+use Rattle.frames.specs.Band.{pixelAt, bandByte, bandOf, missing, markAt}
+use Rattle.frames.specs.Frame.{frameLen, paintRefusal, refusalOf, fillByte, fillOf, frameOf}
+use Rattle.lists.proofs.Digits.{row-room}
+use Rattle.frames.proofs.PixelLaws.{Covered, covers-covered, covered-covers, over-inside, over-outside}
 use Rattle.laws.specs.Painting.{Ready, OnScreen, channelAt, withWords, Clear}
 use Rattle.laws.proofs.LayerLaws.{Alike}
 
 -- ---- what is ready is painted
 
-pub ready-accepted : (s : Scene) → Ready s → Accepted (s .words)
-ready-accepted s r = check-accepted (s .words) (r .long) (r .accepted)
-
 -- a band of such a scene over an output of the right length is not refused
-pub ready-done : (s : Scene) (a b : ℕ) (out : List ℕ) → Ready s → a ≤ b → b ≤ 8 → length out ≡ frameLen (s .words) → refusalOf s a b out ≡ done
+pub ready-done : (s : Scene) (a b : ℕ) (out : List ℕ) → Ready s → a ≤ b → b ≤ 8 → length out ≡ frameLen (s .words)
+    → refusalOf s a b out ≡ done
 unfolding paintRefusal
 ready-done s a b out r ab b8 lo =
-    let acc = ready-accepted s r in
+    let acc = r .accepted in
     rw (
       le-leb a b ab,
       le-leb b 8 b8,
@@ -69,51 +68,55 @@ picture-room w n u v c o g hu hv hc =
     )
 
 -- where it covers the screen's pixel (x, y), that is one of its own
-pub across-lt : (l : Layer) (x y : ℕ) → covers l x y ≡ true → (x - l .x < l .width) × (y - l .y < l .height)
+pub across-lt : (l : Layer) (x y : ℕ) → covers l y x ≡ true → (x - l .x < l .width) × (y - l .y < l .height)
 across-lt l x y e =
     let k = covers-covered l x y e in
     (omega (arith, k .left, k .right), omega (arith, k .top, k .bottom))
 
 -- ---- one layer over a pixel
 
-pub covers-not : (l : Layer) (x y : ℕ) → covers l x y ≡ false → Covered l x y → ⊥
+pub covers-not : (l : Layer) (x y : ℕ) → covers l y x ≡ false → Covered l y x → ⊥
 covers-not l x y e c = true≢false (sym (covered-covers l x y c) ∙ e)
 
 -- a layer with no alpha anywhere
-pub over-clear : (s : Scene) (x y c n p : ℕ) → Clear s n → overAt s x y c n p ≡ p
-over-clear s x y c n p h = go (covers (layerOf (s .words) n) x y) refl
+pub over-clear : (s : Scene) (x y c n p : ℕ) → Clear s n → overAt s y x c n p ≡ p
+over-clear s x y c n p h = go (covers (layerOf (s .words) n) y x) refl
   where
-    go : (t : Bool) → covers (layerOf (s .words) n) x y ≡ t → overAt s x y c n p ≡ p
+    go : (t : Bool) → covers (layerOf (s .words) n) y x ≡ t → overAt s y x c n p ≡ p
     go true e =
         let i = across-lt (layerOf (s .words) n) x y e in
-        over-inside s x y c n p (covers-covered (layerOf (s .words) n) x y e) ∙ rw (h _ _ (i .0) (i .1)) (blendOf-clear _ p)
+        over-inside s x y c n p (covers-covered (layerOf (s .words) n) x y e)
+        ∙ rw (h _ _ (i .1) (i .0)) (blendOf-clear _ p)
     go false e = over-outside s x y c n p (covers-not (layerOf (s .words) n) x y e)
 
 -- layers that differ in depth alone, with the same pixels, are the same over a pixel
 module _ (s s′ : Scene) (n : ℕ) (same : Alike (layerOf (s′ .words) n) (layerOf (s .words) n)) (f : s′ .frame ≡ s .frame)
-    (own : (u v c : ℕ) → u < layerOf (s .words) n .width → v < layerOf (s .words) n .height → c < 4 → ownAt s′ n u v c ≡ ownAt s n u v c) where
-  alpha-same : (u v : ℕ) → u < layerOf (s .words) n .width → v < layerOf (s .words) n .height → alphaAt s′ n u v ≡ alphaAt s n u v
+    (own : (u v c : ℕ) → u < layerOf (s .words) n .width → v < layerOf (s .words) n .height → c < 4
+    → ownAt s′ n v u c ≡ ownAt s n v u c) where
+  alpha-same : (u v : ℕ) → u < layerOf (s .words) n .width → v < layerOf (s .words) n .height
+      → alphaAt s′ n v u ≡ alphaAt s n v u
   unfolding alphaAt
   alpha-same u v hu hv =
-      let o : ownAt s′ n u v 3 ≡ ownAt s n u v 3 = own u v 3 hu hv (omega arith) in
-      rw (o, f) (ap (λ (l : Layer). pick (l .global) (fadedOf (s .frame) l) (ownAt s n u v 3)) same)
+      let o : ownAt s′ n v u 3 ≡ ownAt s n v u 3 = own u v 3 hu hv (omega arith) in
+      rw (o, f) (ap (λ (l : Layer). pick (l .global) (fadedOf (s .frame) l) (ownAt s n v u 3)) same)
 
-  covers-same : (x y : ℕ) → covers (layerOf (s′ .words) n) x y ≡ covers (layerOf (s .words) n) x y
+  covers-same : (x y : ℕ) → covers (layerOf (s′ .words) n) y x ≡ covers (layerOf (s .words) n) y x
   unfolding covers
-  covers-same x y = ap (λ (l : Layer). covers l x y) same
+  covers-same x y = ap (λ (l : Layer). covers l y x) same
 
-  pub over-same : (x y c p : ℕ) → c < 4 → overAt s′ x y c n p ≡ overAt s x y c n p
+  pub over-same : (x y c p : ℕ) → c < 4 → overAt s′ y x c n p ≡ overAt s y x c n p
   unfolding overAt
   over-same x y c p hc =
       let ex : layerOf (s′ .words) n .x ≡ layerOf (s .words) n .x = ap (λ (l : Layer). l .x) same in
       let ey : layerOf (s′ .words) n .y ≡ layerOf (s .words) n .y = ap (λ (l : Layer). l .y) same in
-      rw (covers-same x y, ex, ey) (pick-cong (covers (layerOf (s .words) n) x y)
+      rw (covers-same x y, ex, ey) (pick-cong (covers (layerOf (s .words) n) y x)
       (λ t. let i = across-lt (layerOf (s .words) n) x y t in
       ap₂ (λ (a o : ℕ). blendOf a o p) (alpha-same _ _ (i .0) (i .1)) (own _ _ c (i .0) (i .1) hc)) (λ f. refl))
 
 -- ---- words whose layers differ in depth alone
 
-module _ (s : Scene) (w′ : List ℕ) (alike : (n : ℕ) → Alike (layerOf w′ n) (layerOf (s .words) n)) (banks : getD w′ 3 0 ≡ getD (s .words) 3 0) where
+module _ (s : Scene) (w′ : List ℕ) (alike : (n : ℕ) → Alike (layerOf w′ n) (layerOf (s .words) n))
+    (banks : getD w′ 3 0 ≡ getD (s .words) 3 0) where
   pictureLen-alike : (n : ℕ) → pictureLenAt w′ n ≡ pictureLenAt (s .words) n
   unfolding pictureLenAt pictureLen
   pictureLen-alike n = ap pictureLen (alike n)
@@ -126,40 +129,42 @@ module _ (s : Scene) (w′ : List ℕ) (alike : (n : ℕ) → Alike (layerOf w�
   unfolding picturesLen
   picturesLen-alike = sum-cong 8 _ _ (λ m h. pictureLen-alike m)
 
-  pub ready-alike : Ready s → Accepted w′ → getD w′ 0 0 ≡ getD (s .words) 0 0 → Ready (withWords s w′)
-  ready-alike r a e =
+  pub ready-alike : Ready s → length w′ ≡ 52 → Accepted w′ → getD w′ 0 0 ≡ getD (s .words) 0 0 → Ready (withWords s w′)
+  ready-alike r l a e =
       record {
-        long = a .long;
-        accepted = accepted-check w′ a;
+        long = l;
+        accepted = a;
         shown = rw e (r .shown);
         tables = r .tables;
         pictures = r .pictures ∙ sym picturesLen-alike;
       }
 
-  bankOf-alike : (tables : List ℕ) (kind n : ℕ) → bankOf w′ tables kind n ≡ bankOf (s .words) tables kind n
-  unfolding bankOf
-  bankOf-alike tables kind n = rw banks
+  bankBytes-alike : (tables : List ℕ) (kind n : ℕ) → bankBytes w′ tables n kind ≡ bankBytes (s .words) tables n kind
+  unfolding bankBytes
+  bankBytes-alike tables kind n = rw banks
 
-  pub own-alike : (n u v c : ℕ) → ownAt (withWords s w′) n u v c ≡ ownAt s n u v c
-  unfolding ownAt graphicsAt indexOf pictureAt
+  pub own-alike : (n u v c : ℕ) → ownAt (withWords s w′) n v u c ≡ ownAt s n v u c
+  unfolding ownAt graphicsAt colourIndex pictureAt
   own-alike n u v c =
       rw (
         pictureStart-alike n,
-        bankOf-alike (s .tables) 0 n,
-        bankOf-alike (s .tables) 1 n,
-        bankOf-alike (s .tables) 2 n,
-        bankOf-alike (s .tables) 3 n,
+        bankBytes-alike (s .tables) 0 n,
+        bankBytes-alike (s .tables) 1 n,
+        bankBytes-alike (s .tables) 2 n,
+        bankBytes-alike (s .tables) 3 n,
       )
-      (ap (λ (l : Layer). pick (l .graphics) (graphicsAt (s .words) (s .tables) n u v c) (getD (s .pictures) (pictureStart (s .words) n + (4 * (v * l .width + u) + c)) 0)) (alike n))
+      (ap (λ (l : Layer). pick (l .graphics) (graphicsAt (s .words) (s .tables) n v u c)
+      (getD (s .pictures) (pictureStart (s .words) n + (4 * (v * l .width + u) + c)) 0)) (alike n))
 
-  pub over-alike : (x y c n p : ℕ) → c < 4 → overAt (withWords s w′) x y c n p ≡ overAt s x y c n p
-  over-alike x y c n p hc = over-same s (withWords s w′) n (alike n) refl (λ u v k hu hv hk. own-alike n u v k) x y c p hc
+  pub over-alike : (x y c n p : ℕ) → c < 4 → overAt (withWords s w′) y x c n p ≡ overAt s y x c n p
+  over-alike x y c n p hc =
+      over-same s (withWords s w′) n (alike n) refl (λ u v k hu hv hk. own-alike n u v k) x y c p hc
 
   missing-alike : (n : ℕ) → missing (withWords s w′) n ≡ missing s n
   unfolding missing
   missing-alike n =
-      rw (bankOf-alike (s .tables) 0 n)
-      (ap (λ (l : Layer). both (l .graphics) (not (endedOf (bankOf (s .words) (s .tables) 0 n)))) (alike n))
+      rw (bankBytes-alike (s .tables) 0 n)
+      (ap (λ (l : Layer). both (l .graphics) (not (endedOf (bankBytes (s .words) (s .tables) n 0)))) (alike n))
 
   pub mark-alike : (n e : ℕ) → markAt (withWords s w′) n e ≡ markAt s n e
   unfolding markAt
@@ -169,7 +174,7 @@ module _ (s : Scene) (w′ : List ℕ) (alike : (n : ℕ) → Alike (layerOf w�
 
 -- frames are the same where every channel is, on a screen of one size and background
 module _ (s s′ : Scene) (first : (k : ℕ) → k < 3 → getD (s′ .words) k 0 ≡ getD (s .words) k 0)
-    (h : (x y c p : ℕ) → c < 4 → pixelAt s′ x y c 0 8 p ≡ pixelAt s x y c 0 8 p) where
+    (h : (x y c p : ℕ) → c < 4 → pixelAt s′ y x c 0 8 p ≡ pixelAt s y x c 0 8 p) where
   size : getD (s′ .words) 1 0 ≡ getD (s .words) 1 0
   size = first 1 (omega arith)
 
@@ -190,10 +195,14 @@ module _ (s s′ : Scene) (first : (k : ℕ) → k < 3 → getD (s′ .words) k 
   pub frame-same : frameOf s′ ≡ frameOf s
   unfolding frameOf bandOf
   frame-same =
-      rw (fillOf-same, first 0 (omega arith), each-cong (bandByte s′ 0 8) (bandByte s 0 8) (fillOf (s .words)) bandByte-same)
+      rw (
+        fillOf-same,
+        first 0 (omega arith),
+        each-cong (bandByte s′ 0 8) (bandByte s 0 8) (fillOf (s .words)) bandByte-same,
+      )
 
 -- the frame's byte of channel c of the pixel (x, y)
-module _ (s : Scene) (shown : shownOf (s .words) ≡ true) (x y c : ℕ) (on : OnScreen (s .words) x y c) where
+module _ (s : Scene) (shown : shownOf (s .words) ≡ true) (x y c : ℕ) (on : OnScreen (s .words) y x c) where
   abbrev W : ℕ
   W = widthOf (s .words)
 
@@ -211,9 +220,15 @@ module _ (s : Scene) (shown : shownOf (s .words) ≡ true) (x y c : ℕ) (on : O
 
   in-frame : 4 * (y * W + x) + c < frameLen (s .words)
   in-frame =
-      omega (arith, row-room y (heightOf (s .words)) W (on .down), mul-comm W (heightOf (s .words)), on .across, on .channel)
+      omega (
+        arith,
+        row-room y (heightOf (s .words)) W (on .down),
+        mul-comm W (heightOf (s .words)),
+        on .across,
+        on .channel,
+      )
 
-  pub channelAt-is : channelAt s x y c ≡ pixelAt s x y c 0 8 (groundOf (s .words) c)
+  pub channelAt-is : channelAt s y x c ≡ pixelAt s y x c 0 8 (groundOf (s .words) c)
   unfolding channelAt frameOf bandOf fillOf bandByte fillByte
   channelAt-is =
       let n : ℕ = frameLen (s .words) in

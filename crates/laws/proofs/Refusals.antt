@@ -122,7 +122,8 @@ tells-or a b nz (passed z n) (given e q) = given (or-passed a b z ∙ e) (inr q)
 tells-or a b nz (passed z n) (passed e m) = passed (or-passed a b z ∙ e) (⊎-elim n m)
 
 -- of one number: any of them
-pub tells-first : {P : ℕ → Type 0} (n k : ℕ) (f : ℕ → ℕ) → eqb k 0 ≡ false → ((i : ℕ) → Tells (f i) k (P i)) → Tells (firstOf n f) k ((i : ℕ) × (i < n) × P i)
+pub tells-first : {P : ℕ → Type 0} (n k : ℕ) (f : ℕ → ℕ) → eqb k 0 ≡ false → ((i : ℕ) → Tells (f i) k (P i))
+    → Tells (firstOf n f) k ((i : ℕ) × (i < n) × P i)
 unfolding firstOf
 tells-first zero k f nz t = passed refl (λ q. let h = q .1 in omega arith)
 tells-first (suc n) k f nz t = tells-as (
@@ -145,12 +146,15 @@ module _ (f : ℕ → ℕ) {N : ℕ → Type 0} (pass : (i : ℕ) → (f i ≡ 0
     unfolding firstOf
     first-at zero q = absurd (over-zero nz q refl)
     first-at (suc n) q = ⊎-elim
-        (λ (z : firstOf n f ≡ 0). (n, omega arith, give n .0 (sym (or-passed (firstOf n f) (f n) z) ∙ q), first-passed n .0 z))
-        (λ (ne : ¬ (firstOf n f ≡ 0)). let p = first-at n (sym (or-given (firstOf n f) (f n) ne) ∙ q) in (p .0, omega (arith, p .1), p .2, p .3))
+        (λ (z : firstOf n f ≡ 0).
+        (n, omega arith, give n .0 (sym (or-passed (firstOf n f) (f n) z) ∙ q), first-passed n .0 z))
+        (λ (ne : ¬ (firstOf n f ≡ 0)).
+        let p = first-at n (sym (or-given (firstOf n f) (f n) ne) ∙ q) in (p .0, omega (arith, p .1), p .2, p .3))
         (same-or (firstOf n f) 0)
 
     pub first-given : (n : ℕ) → (firstOf n f ≡ r) ↔ ((i : ℕ) × (i < n) × P i × ((m : ℕ) → m < i → N m))
     first-given n = (
       first-at n,
-      λ p. sym (first-stops f (p .0) n r (p .1) (first-passed (p .0) .1 (p .3)) (sym (give (p .0) .1 (p .2))) (eqb-false r 0 nz)),
+      λ p. sym (first-stops f (p .0) n r (p .1) (first-passed (p .0) .1 (p .3)) (sym (give (p .0) .1 (p .2)))
+          (eqb-false r 0 nz)),
     )

@@ -10,28 +10,39 @@ use borrow.Author.Tests.{eq-eqb, ne-eqb}
 use lib.Dec.{eqb, ltb, leb}
 use lib.ListN.{length, set}
 use lib.Bits.{bitOr}
-use Rattle.lists.specs.Choice.{pick, both, orElse}
+use Rattle.lists.specs.Choice.{pick, both, orElse, choose}
 use Rattle.lists.proofs.Choice.{split, same-or}
 use Rattle.words.specs.Fields.{updateOf, widthOf, heightOf}
-use Rattle.words.specs.Check.{checkOf}
+use Rattle.words.specs.Check.{checkOf, Accepted}
 use Rattle.words.specs.Pictures.{picturesLen}
 use Rattle.tables.specs.Geometry.{tablesLen}
 use Rattle.tables.specs.Selection.{controllerOf, firstByteOf, endOf, namedBy}
-use Rattle.paint.specs.Band.{bandOf, errorsOf}
-use Rattle.paint.specs.Frame.{bandRefusal, sizeRefusal, outputRefusal, tablesRefusal, picturesRefusal, fillRefusal, paintRefusal, fillOf, frameOf}
-use Rattle.paint.specs.Frame as painting
+use Rattle.frames.specs.Band.{bandOf, errorsOf}
+use Rattle.frames.specs.Frame.{bandRefusal, sizeRefusal, outputRefusal, tablesRefusal, picturesRefusal, fillRefusal}
+use Rattle.frames.specs.Frame.{paintRefusal, fillOf, frameOf}
+use Rattle.frames.specs.Frame as painting
 use Rattle.display.specs.declared.Display.{Display}
 use Rattle.display.specs.declared.Told.{Told}
-use Rattle.display.specs.State.{withPending, withActive, withErrors, withSelection, withPlace, told, pickTold, stepped, writeOf, selectOf, toggleOf, startOf}
+use Rattle.display.specs.State.{withPending, withActive, withErrors, freshSelection, withPlace, told, stepped, writeOf}
+use Rattle.display.specs.State.{selectOf, toggleOf, startOf}
 use Rattle.display.specs.Put.{putAnswer, putState, putOf, putTables}
 use Rattle.display.specs.Reached.{Sound}
 use Rattle.display.specs.Paint.{sceneWith, fillTold, fillBytes, paintTold, paintBytes, frameTold, frameBytes}
 use Rattle.host.specs.Host.{wordsOf, sceneIn, hostAnswer, hostOutput}
-use Rattle.laws.proofs.Refusals.{Says, says-itself, eqb-says, ltb-says, leb-says, both-says, either-says, Tells, refuses, refuses-but, tells-as, over-zero, Misses, other, misses-or, or-first, or-later, given-when, passed-when, own, past}
-use Rattle.laws.specs.Rows.{Row, ReservedBit, Case8, Case9, Case10, Case11, Faultless, Updates, NoBand, NoSize, WrongOutput, WrongTables, WrongPictures, NotSelected, BankActive, BankFull, WrongImage}
+use Rattle.laws.proofs.Refusals.{Says, says-itself, eqb-says, ltb-says, leb-says, both-says, either-says, Tells}
+use Rattle.laws.proofs.Refusals.{refuses, refuses-but, tells-as, over-zero, Misses, other, misses-or, or-first}
+use Rattle.laws.proofs.Refusals.{or-later, given-when, passed-when, own, past}
+use Rattle.laws.specs.Rows.{Row, StartRow, PutRow, FillRow, PaintRow, FrameRow, HostRow, ReservedBit, Case8}
+use Rattle.laws.specs.Rows.{Case9, Case10, Case11, Updates, NoBand, NoSize, WrongOutput, WrongTables}
+use Rattle.laws.specs.Rows.{WrongPictures, Case6, Case14, BuffersFit, NotSelected, BankActive, BankFull}
+use Rattle.laws.specs.Rows.{WrongImage}
 use Rattle.laws.proofs.CheckRows.{check-7, check-8, check-9, check-10, check-11, check-0, check-misses}
 
 -- ---- write, select and toggle
+
+-- what is not below a bound
+not-below : (n k : ℕ) → ¬ (n < k) → k ≤ n
+not-below n k f = ⊎-elim (λ (h : n < k). absurd (f h)) (λ (h : k ≤ n). h) (split n k)
 
 -- the same case in other words
 row-as : {x k : ℕ} {P Q L : Type 0} → P ↔ Q → Row x k P L → Row x k Q L
@@ -39,35 +50,49 @@ row-as f r = record { only = λ e. f .0 (r .only e); when = λ q. r .when (f .1 
 
 -- done with the state a, or refused with k and the state b
 module _ (k : ℕ) (nz : eqb k 0 ≡ false) (a b : Display) where
-  choice-done : {P : Type 0} (t : Bool) → Says t P → Row (pickTold t (told a 0) (told b k) .answer) 0 P (pickTold t (told a 0) (told b k) .state ≡ a)
+  choice-done : {P : Type 0} (t : Bool) → Says t P
+      → Row (choose t (told a 0) (told b k) .answer) 0 P (choose t (told a 0) (told b k) .state ≡ a)
   choice-done true s = record { only = λ q. s .0 refl; when = λ p. refl; leaves = λ q. refl }
   choice-done false s =
-      record { only = λ q. absurd (over-zero nz refl q); when = λ p. absurd (s .1 refl p); leaves = λ q. absurd (over-zero nz refl q) }
+      record {
+        only = λ q. absurd (over-zero nz refl q);
+        when = λ p. absurd (s .1 refl p);
+        leaves = λ q. absurd (over-zero nz refl q);
+      }
 
-  choice-refused : {P : Type 0} (t : Bool) → Says t P → Row (pickTold t (told a 0) (told b k) .answer) k (¬ P) (pickTold t (told a 0) (told b k) .state ≡ b)
+  choice-refused : {P : Type 0} (t : Bool) → Says t P
+      → Row (choose t (told a 0) (told b k) .answer) k (¬ P) (choose t (told a 0) (told b k) .state ≡ b)
   choice-refused true s =
-      record { only = λ q. absurd (over-zero nz q refl); when = λ n. absurd (n (s .0 refl)); leaves = λ q. absurd (over-zero nz q refl) }
+      record {
+        only = λ q. absurd (over-zero nz q refl);
+        when = λ n. absurd (n (s .0 refl));
+        leaves = λ q. absurd (over-zero nz q refl);
+      }
   choice-refused false s = record { only = λ q. s .1 refl; when = λ n. refl; leaves = λ q. refl }
 
 module _ (d : Display) where
   -- "register above 51": "all unchanged"
-  pub write-1 : (register value : ℕ) → Row (writeOf d register value .answer) 1 (51 < register) (writeOf d register value .state ≡ d)
+  pub write-1 : (register value : ℕ)
+      → Row (writeOf d register value .answer) 1 (51 < register) (writeOf d register value .state ≡ d)
   write-1 register value =
-      row-as (λ n. ⊎-elim (λ (h : register < 52). absurd (n h)) (λ (h : 52 ≤ register). h) (split register 52), λ h k. omega arith)
+      row-as (not-below register 52, λ h k. omega arith)
       (choice-refused 1 refl _ d (ltb register 52) (ltb-says register 52))
 
   pub write-0 : (register value : ℕ)
-      → Row (writeOf d register value .answer) 0 (register ≤ 51) (writeOf d register value .state ≡ withPending d (set (d .pending) register value))
+      → Row (writeOf d register value .answer) 0 (register ≤ 51)
+      (writeOf d register value .state ≡ withPending d (set (d .pending) register value))
   write-0 register value =
       row-as (λ h. omega arith, λ h. omega arith) (choice-done 1 refl _ d (ltb register 52) (ltb-says register 52))
 
   -- "above 63": "all unchanged"
-  pub select-2 : (selection : ℕ) → Row (selectOf d selection .answer) 2 (63 < selection) (selectOf d selection .state ≡ d)
+  pub select-2 : (selection : ℕ)
+      → Row (selectOf d selection .answer) 2 (63 < selection) (selectOf d selection .state ≡ d)
   select-2 selection =
-      row-as (λ n. ⊎-elim (λ (h : selection < 64). absurd (n h)) (λ (h : 64 ≤ selection). h) (split selection 64), λ h k. omega arith)
+      row-as (not-below selection 64, λ h k. omega arith)
       (choice-refused 2 refl _ d (ltb selection 64) (ltb-says selection 64))
 
-  pub select-0 : (selection : ℕ) → Row (selectOf d selection .answer) 0 (selection ≤ 63) (selectOf d selection .state ≡ withSelection d selection)
+  pub select-0 : (selection : ℕ)
+      → Row (selectOf d selection .answer) 0 (selection ≤ 63) (selectOf d selection .state ≡ freshSelection d selection)
   select-0 selection =
       row-as (λ h. omega arith, λ h. omega arith) (choice-done 2 refl _ d (ltb selection 64) (ltb-says selection 64))
 
@@ -80,14 +105,15 @@ module _ (d : Display) where
 -- words whose check gives c: taken with the state a, or refused with the state b
 module _ (a b : Display) (c : ℕ) where
   started : Told
-  started = pickTold (eqb c 0) (told a 0) (told b c)
+  started = choose (eqb c 0) (told a 0) (told b c)
 
   started-answer : started .answer ≡ c
   unfolding started
   started-answer = ⊎-elim (λ (z : c ≡ 0). rw z) (λ (ne : ¬ (c ≡ 0)). rw (ne-eqb c 0 ne)) (same-or c 0)
 
   module _ (r : ℕ) {C : Type 0} (f : (c ≡ r) ↔ C) where
-    start-refused : eqb r 0 ≡ false → (t : Bool) → Row (pickTold t started (told b 0) .answer) r ((t ≡ true) × C) (pickTold t started (told b 0) .state ≡ b)
+    start-refused : eqb r 0 ≡ false → (t : Bool)
+        → Row (choose t started (told b 0) .answer) r ((t ≡ true) × C) (choose t started (told b 0) .state ≡ b)
     unfolding started
     start-refused nz true =
         record {
@@ -99,8 +125,8 @@ module _ (a b : Display) (c : ℕ) where
         record { only = λ q. absurd (over-zero nz q refl); when = λ p. absurd (false≢true (p .0)); leaves = λ q. refl }
 
   start-done : {C : Type 0} → (c ≡ 0) ↔ C → (t : Bool)
-      → Row (pickTold t started (told b 0) .answer) 0 ((t ≡ false) ⊎ C)
-      ((t ≡ false → pickTold t started (told b 0) .state ≡ b) × (t ≡ true → pickTold t started (told b 0) .state ≡ a))
+      → Row (choose t started (told b 0) .answer) 0 ((t ≡ false) ⊎ C)
+      ((t ≡ false → choose t started (told b 0) .state ≡ b) × (t ≡ true → choose t started (told b 0) .state ≡ a))
   unfolding started
   start-done f true =
       record {
@@ -112,34 +138,35 @@ module _ (a b : Display) (c : ℕ) where
       record { only = λ q. inl refl; when = λ p. refl; leaves = λ q. (λ e. refl, λ e. absurd (false≢true e)) }
 
 module _ (d : Display) where
-  -- a refusal, given with the pending update bit set alone: "frame number stepped, else unchanged"
-  abbrev pub StartRow : ℕ → Type 0 → Type 0
-  StartRow number Case = Row (startOf d .answer) number (Updates d × Case) (startOf d .state ≡ stepped d)
-
-  start-row : (r : ℕ) {C : Type 0} → eqb r 0 ≡ false → (checkOf (d .pending) ≡ r) ↔ C → StartRow r C
+  start-row : (r : ℕ) {C : Type 0} → eqb r 0 ≡ false → (checkOf (d .pending) ≡ r) ↔ C → StartRow d r C
   unfolding started
-  start-row r nz f = start-refused (withActive (stepped d) (d .pending)) (stepped d) (checkOf (d .pending)) r f nz (updateOf (d .pending))
+  start-row r nz f =
+      start-refused (withActive (stepped d) (d .pending)) (stepped d) (checkOf (d .pending)) r f nz
+      (updateOf (d .pending))
 
-  pub start-7 : StartRow 7 (ReservedBit (d .pending))
+  pub start-7 : StartRow d 7 (ReservedBit (d .pending))
   start-7 = start-row 7 refl (check-7 (d .pending))
 
-  pub start-8 : StartRow 8 (Case8 (d .pending))
+  pub start-8 : StartRow d 8 (Case8 (d .pending))
   start-8 = start-row 8 refl (check-8 (d .pending))
 
-  pub start-9 : StartRow 9 (Case9 (d .pending))
+  pub start-9 : StartRow d 9 (Case9 (d .pending))
   start-9 = start-row 9 refl (check-9 (d .pending))
 
-  pub start-10 : StartRow 10 (Case10 (d .pending))
+  pub start-10 : StartRow d 10 (Case10 (d .pending))
   start-10 = start-row 10 refl (check-10 (d .pending))
 
-  pub start-11 : StartRow 11 (Case11 (d .pending))
+  pub start-11 : StartRow d 11 (Case11 (d .pending))
   start-11 = start-row 11 refl (check-11 (d .pending))
 
   -- "if they pass they become the active ones. With the update bit clear nothing is checked or copied."
-  pub start-0 : Row (startOf d .answer) 0 ((updateOf (d .pending) ≡ false) ⊎ Faultless (d .pending))
-      ((updateOf (d .pending) ≡ false → startOf d .state ≡ stepped d) × (Updates d → startOf d .state ≡ withActive (stepped d) (d .pending)))
+  pub start-0 : Row (startOf d .answer) 0 ((updateOf (d .pending) ≡ false) ⊎ Accepted (d .pending))
+      ((updateOf (d .pending) ≡ false → startOf d .state ≡ stepped d)
+      × (Updates d → startOf d .state ≡ withActive (stepped d) (d .pending)))
   unfolding started
-  start-0 = start-done (withActive (stepped d) (d .pending)) (stepped d) (checkOf (d .pending)) (check-0 (d .pending)) (updateOf (d .pending))
+  start-0 =
+      start-done (withActive (stepped d) (d .pending)) (stepped d) (checkOf (d .pending)) (check-0 (d .pending))
+      (updateOf (d .pending))
 
 -- ---- fill and paint
 
@@ -152,7 +179,8 @@ not-both a b = (
 
 tells-15 : (a b : ℕ) → Tells (bandRefusal a b) 15 (NoBand a b)
 tells-15 a b =
-    tells-as (not-both a b) (refuses-but (both (leb a b) (leb b 8)) 15 (both-says (leb a b) (leb b 8) (leb-says a b) (leb-says b 8)))
+    tells-as (not-both a b)
+    (refuses-but (both (leb a b) (leb b 8)) 15 (both-says (leb a b) (leb b 8) (leb-says a b) (leb-says b 8)))
 
 module _ (w : List ℕ) where
   tells-12 : Tells (sizeRefusal w) 12 (NoSize w)
@@ -168,19 +196,15 @@ tells-6 : (tables : List ℕ) → Tells (tablesRefusal (length tables)) 6 (Wrong
 tells-6 tables = refuses-but _ 6 (eqb-says (length tables) tablesLen)
 
 module _ (d : Display) (out : List ℕ) where
-  -- a refusal: "all unchanged"
-  abbrev pub FillRow : ℕ → Type 0 → Type 0
-  FillRow number Case = Row (fillTold d out .answer) number Case ((fillTold d out .state ≡ d) × (fillBytes d out ≡ out))
-
-  fill-row : (r : ℕ) {C : Type 0} → eqb r 0 ≡ false → (fillRefusal (d .active) (length out) ≡ r) ↔ C → FillRow r C
+  fill-row : (r : ℕ) {C : Type 0} → eqb r 0 ≡ false → (fillRefusal (d .active) (length out) ≡ r) ↔ C → FillRow d out r C
   unfolding fillTold fillBytes painting.fillAfter
   fill-row r nz f = record { only = f .0; when = f .1; leaves = λ q. (refl, rw (ne-eqb _ 0 (over-zero nz q))) }
 
-  pub fill-12 : FillRow 12 (NoSize (d .active))
+  pub fill-12 : FillRow d out 12 (NoSize (d .active))
   unfolding fillRefusal
   fill-12 = fill-row 12 refl (own refl _ (tells-12 (d .active)) (other 12 refl (tells-13 (d .active) out)))
 
-  pub fill-13 : FillRow 13 ((¬ NoSize (d .active)) × WrongOutput (d .active) out)
+  pub fill-13 : FillRow d out 13 ((¬ NoSize (d .active)) × WrongOutput (d .active) out)
   unfolding fillRefusal
   fill-13 = fill-row 13 refl (past refl _ 13 refl (tells-12 (d .active)) (given-when refl (tells-13 (d .active) out)))
 
@@ -198,108 +222,119 @@ module _ (w out tables pictures : List ℕ) where
       orElse (sizeRefusal w) (orElse (outputRefusal w (length out))
       (orElse (tablesRefusal (length tables)) (picturesRefusal w (length pictures))))
 
+  last-misses : (r : ℕ) → eqb 6 r ≡ false → eqb 14 r ≡ false
+      → Misses (orElse (tablesRefusal (length tables)) (picturesRefusal w (length pictures))) r
+  last-misses r c e =
+      misses-or (tablesRefusal (length tables)) _ r (other r c (tells-6 tables)) (other r e (tells-14 w pictures))
+
   lent-misses : (r : ℕ) → eqb 12 r ≡ false → eqb 13 r ≡ false → eqb 6 r ≡ false → eqb 14 r ≡ false → Misses lent r
   lent-misses r a b c e =
-      misses-or (sizeRefusal w) _ r (other r a (tells-12 w)) (misses-or (outputRefusal w (length out)) _ r (other r b (tells-13 w out))
-      (misses-or (tablesRefusal (length tables)) _ r (other r c (tells-6 tables)) (other r e (tells-14 w pictures))))
+      misses-or (sizeRefusal w) _ r (other r a (tells-12 w))
+      (misses-or (outputRefusal w (length out)) _ r (other r b (tells-13 w out)) (last-misses r c e))
 
   lent-12 : (lent ≡ 12) ↔ NoSize w
   lent-12 = own refl _ (tells-12 w) (misses-or (outputRefusal w (length out)) _ 12 (other 12 refl (tells-13 w out))
-      (misses-or (tablesRefusal (length tables)) _ 12 (other 12 refl (tells-6 tables)) (other 12 refl (tells-14 w pictures))))
+      (last-misses 12 refl refl))
 
   lent-13 : (lent ≡ 13) ↔ ((¬ NoSize w) × WrongOutput w out)
   lent-13 = past refl _ 13 refl (tells-12 w) (own refl _ (tells-13 w out)
-      (misses-or (tablesRefusal (length tables)) _ 13 (other 13 refl (tells-6 tables)) (other 13 refl (tells-14 w pictures))))
+      (last-misses 13 refl refl))
 
-  lent-6 : (lent ≡ 6) ↔ ((¬ NoSize w) × ((¬ WrongOutput w out) × WrongTables tables))
-  lent-6 = past refl _ 6 refl (tells-12 w) (past refl _ 6 refl (tells-13 w out) (own refl _ (tells-6 tables) (other 6 refl (tells-14 w pictures))))
+  lent-6 : (lent ≡ 6) ↔ ((¬ NoSize w) × Case6 w out tables)
+  lent-6 = past refl _ 6 refl (tells-12 w)
+      (past refl _ 6 refl (tells-13 w out) (own refl _ (tells-6 tables) (other 6 refl (tells-14 w pictures))))
 
-  lent-14 : (lent ≡ 14) ↔ ((¬ NoSize w) × ((¬ WrongOutput w out) × ((¬ WrongTables tables) × WrongPictures w pictures)))
+  lent-14 : (lent ≡ 14) ↔ ((¬ NoSize w) × Case14 w out tables pictures)
   lent-14 = past refl _ 14 refl (tells-12 w)
-      (past refl _ 14 refl (tells-13 w out) (past refl _ 14 refl (tells-6 tables) (given-when refl (tells-14 w pictures))))
+      (past refl _ 14 refl (tells-13 w out)
+      (past refl _ 14 refl (tells-6 tables) (given-when refl (tells-14 w pictures))))
 
-  lent-0 : (lent ≡ 0) ↔ ((¬ NoSize w) × ((¬ WrongOutput w out) × ((¬ WrongTables tables) × (¬ WrongPictures w pictures))))
+  lent-0 : (lent ≡ 0)
+      ↔ ((¬ NoSize w) × BuffersFit w out tables pictures)
   lent-0 = past refl _ 0 refl (tells-12 w)
-      (past refl _ 0 refl (tells-13 w out) (past refl _ 0 refl (tells-6 tables) (passed-when refl (tells-14 w pictures))))
+      (past refl _ 0 refl (tells-13 w out)
+      (past refl _ 0 refl (tells-6 tables) (passed-when refl (tells-14 w pictures))))
 
 -- "Paint 15, 12, 13, 6, 14."
 module _ (d : Display) (a b : ℕ) (tables pictures out : List ℕ) where
-  -- a refusal: "all unchanged"
-  abbrev pub PaintRow : ℕ → Type 0 → Type 0
-  PaintRow number Case =
-      Row (paintTold d a b tables pictures out .answer) number Case
-      ((paintTold d a b tables pictures out .state ≡ d) × (paintBytes d a b tables pictures out ≡ out))
-
-  paint-row : (r : ℕ) {C : Type 0} → eqb r 0 ≡ false → (painting.refusalOf (sceneWith d tables pictures) a b out ≡ r) ↔ C → PaintRow r C
-  unfolding paintTold paintBytes painting.paintTold painting.paintAfter
+  paint-row : (r : ℕ) {C : Type 0} → eqb r 0 ≡ false
+      → (painting.refusalOf (sceneWith d tables pictures) a b out ≡ r) ↔ C → PaintRow d a b tables pictures out r C
+  unfolding paintTold paintBytes painting.errorsAfter painting.paintAfter
   paint-row r nz f =
-      record { only = f .0; when = f .1; leaves = λ q. (rw (ne-eqb _ 0 (over-zero nz q)), rw (ne-eqb _ 0 (over-zero nz q))) }
+      record {
+        only = f .0;
+        when = f .1;
+        leaves = λ q. (rw (ne-eqb _ 0 (over-zero nz q)), rw (ne-eqb _ 0 (over-zero nz q)));
+      }
 
-  pub paint-15 : PaintRow 15 (NoBand a b)
+  pub paint-15 : PaintRow d a b tables pictures out 15 (NoBand a b)
   unfolding paintRefusal
-  paint-15 = paint-row 15 refl (own refl _ (tells-15 a b) (lent-misses (d .active) out tables pictures 15 refl refl refl refl))
+  paint-15 =
+      paint-row 15 refl (own refl _ (tells-15 a b) (lent-misses (d .active) out tables pictures 15 refl refl refl refl))
 
-  pub paint-12 : PaintRow 12 ((¬ NoBand a b) × NoSize (d .active))
+  pub paint-12 : PaintRow d a b tables pictures out 12 ((¬ NoBand a b) × NoSize (d .active))
   unfolding paintRefusal
   paint-12 = paint-row 12 refl (past refl _ 12 refl (tells-15 a b) (lent-12 (d .active) out tables pictures))
 
-  pub paint-13 : PaintRow 13 ((¬ NoBand a b) × ((¬ NoSize (d .active)) × WrongOutput (d .active) out))
+  pub paint-13 : PaintRow d a b tables pictures out 13
+      ((¬ NoBand a b) × ((¬ NoSize (d .active)) × WrongOutput (d .active) out))
   unfolding paintRefusal
   paint-13 = paint-row 13 refl (past refl _ 13 refl (tells-15 a b) (lent-13 (d .active) out tables pictures))
 
-  pub paint-6 : PaintRow 6 ((¬ NoBand a b) × ((¬ NoSize (d .active)) × ((¬ WrongOutput (d .active) out) × WrongTables tables)))
+  pub paint-6 : PaintRow d a b tables pictures out 6
+      ((¬ NoBand a b) × ((¬ NoSize (d .active)) × Case6 (d .active) out tables))
   unfolding paintRefusal
   paint-6 = paint-row 6 refl (past refl _ 6 refl (tells-15 a b) (lent-6 (d .active) out tables pictures))
 
-  pub paint-14 : PaintRow 14
-      ((¬ NoBand a b) × ((¬ NoSize (d .active)) × ((¬ WrongOutput (d .active) out) × ((¬ WrongTables tables) × WrongPictures (d .active) pictures))))
+  pub paint-14 : PaintRow d a b tables pictures out 14
+      ((¬ NoBand a b) × ((¬ NoSize (d .active)) × Case14 (d .active) out tables pictures))
   unfolding paintRefusal
   paint-14 = paint-row 14 refl (past refl _ 14 refl (tells-15 a b) (lent-14 (d .active) out tables pictures))
 
   pub paint-0 : Row (paintTold d a b tables pictures out .answer) 0
-      ((¬ NoBand a b) × ((¬ NoSize (d .active)) × ((¬ WrongOutput (d .active) out) × ((¬ WrongTables tables) × (¬ WrongPictures (d .active) pictures)))))
-      ((paintTold d a b tables pictures out .state ≡ withErrors d (errorsOf (sceneWith d tables pictures) a b (d .errors)))
+      ((¬ NoBand a b) × ((¬ NoSize (d .active)) × BuffersFit (d .active) out tables pictures))
+      ((paintTold d a b tables pictures out .state
+      ≡ withErrors d (errorsOf (sceneWith d tables pictures) a b (d .errors)))
       × (paintBytes d a b tables pictures out ≡ bandOf (sceneWith d tables pictures) a b out))
-  unfolding paintRefusal paintTold paintBytes painting.paintTold painting.paintAfter
+  unfolding paintRefusal paintTold paintBytes painting.errorsAfter painting.paintAfter
   paint-0 =
       let f = past refl _ 0 refl (tells-15 a b) (lent-0 (d .active) out tables pictures) in
       record { only = f .0; when = f .1; leaves = λ q. (rw (eq-eqb _ 0 q), rw (eq-eqb _ 0 q)) }
 
 -- "A whole frame is a fill and band 0..8, refused as paint."
 module _ (d : Display) (tables pictures out : List ℕ) where
-  -- a refusal: "all unchanged"
-  abbrev pub FrameRow : ℕ → Type 0 → Type 0
-  FrameRow number Case =
-      Row (frameTold d tables pictures out .answer) number Case
-      ((frameTold d tables pictures out .state ≡ d) × (frameBytes d tables pictures out ≡ out))
-
-  frame-row : (r : ℕ) {C : Type 0} → eqb r 0 ≡ false → (painting.refusalOf (sceneWith d tables pictures) 0 8 out ≡ r) ↔ C → FrameRow r C
-  unfolding frameTold frameBytes painting.frameTold painting.paintTold painting.frameAfter
+  frame-row : (r : ℕ) {C : Type 0} → eqb r 0 ≡ false
+      → (painting.refusalOf (sceneWith d tables pictures) 0 8 out ≡ r) ↔ C → FrameRow d tables pictures out r C
+  unfolding frameTold frameBytes paintTold painting.errorsAfter painting.frameAfter
   frame-row r nz f =
-      record { only = f .0; when = f .1; leaves = λ q. (rw (ne-eqb _ 0 (over-zero nz q)), rw (ne-eqb _ 0 (over-zero nz q))) }
+      record {
+        only = f .0;
+        when = f .1;
+        leaves = λ q. (rw (ne-eqb _ 0 (over-zero nz q)), rw (ne-eqb _ 0 (over-zero nz q)));
+      }
 
-  pub frame-12 : FrameRow 12 (NoSize (d .active))
+  pub frame-12 : FrameRow d tables pictures out 12 (NoSize (d .active))
   unfolding paintRefusal
   frame-12 = frame-row 12 refl (lent-12 (d .active) out tables pictures)
 
-  pub frame-13 : FrameRow 13 ((¬ NoSize (d .active)) × WrongOutput (d .active) out)
+  pub frame-13 : FrameRow d tables pictures out 13 ((¬ NoSize (d .active)) × WrongOutput (d .active) out)
   unfolding paintRefusal
   frame-13 = frame-row 13 refl (lent-13 (d .active) out tables pictures)
 
-  pub frame-6 : FrameRow 6 ((¬ NoSize (d .active)) × ((¬ WrongOutput (d .active) out) × WrongTables tables))
+  pub frame-6 : FrameRow d tables pictures out 6 ((¬ NoSize (d .active)) × Case6 (d .active) out tables)
   unfolding paintRefusal
   frame-6 = frame-row 6 refl (lent-6 (d .active) out tables pictures)
 
-  pub frame-14 : FrameRow 14
-      ((¬ NoSize (d .active)) × ((¬ WrongOutput (d .active) out) × ((¬ WrongTables tables) × WrongPictures (d .active) pictures)))
+  pub frame-14 : FrameRow d tables pictures out 14
+      ((¬ NoSize (d .active)) × Case14 (d .active) out tables pictures)
   unfolding paintRefusal
   frame-14 = frame-row 14 refl (lent-14 (d .active) out tables pictures)
 
   pub frame-0 : Row (frameTold d tables pictures out .answer) 0
-      ((¬ NoSize (d .active)) × ((¬ WrongOutput (d .active) out) × ((¬ WrongTables tables) × (¬ WrongPictures (d .active) pictures))))
+      ((¬ NoSize (d .active)) × BuffersFit (d .active) out tables pictures)
       ((frameTold d tables pictures out .state ≡ withErrors d (errorsOf (sceneWith d tables pictures) 0 8 (d .errors)))
       × (frameBytes d tables pictures out ≡ frameOf (sceneWith d tables pictures)))
-  unfolding paintRefusal frameTold frameBytes painting.frameTold painting.paintTold painting.frameAfter
+  unfolding paintRefusal frameTold frameBytes paintTold painting.errorsAfter painting.frameAfter
   frame-0 =
       let f = lent-0 (d .active) out tables pictures in
       record { only = f .0; when = f .1; leaves = λ q. (rw (eq-eqb _ 0 q), rw (eq-eqb _ 0 q)) }
@@ -311,129 +346,161 @@ is-false true n = absurd (n refl)
 is-false false n = refl
 
 module _ (d : Display) (tables : List ℕ) (byte : ℕ) where
-  tells-3 : Tells (pick (d .selected) 0 3) 3 (NotSelected d)
-  tells-3 = tells-as (is-false (d .selected), λ e f. false≢true (sym e ∙ f)) (refuses-but (d .selected) 3 (says-itself (d .selected)))
+  tells-3 : Tells (pick (d .selection .made) 0 3) 3 (NotSelected d)
+  tells-3 =
+      tells-as (is-false (d .selection .made), λ e f. false≢true (sym e ∙ f))
+      (refuses-but (d .selection .made) 3 (says-itself (d .selection .made)))
 
-  tells-4 : Tells (pick (namedBy (d .active) (d .selection)) 4 0) 4 (BankActive d)
+  tells-4 : Tells (pick (namedBy (d .active) (d .selection .number)) 4 0) 4 (BankActive d)
   tells-4 = refuses _ 4 (says-itself _)
 
-  tells-5 : Tells (pick (ltb (d .place) (endOf (d .selection))) 0 5) 5 (¬ (d .place < endOf (d .selection)))
+  tells-5 : Tells (pick (ltb (d .selection .place) (endOf (d .selection .number))) 0 5) 5
+      (¬ (d .selection .place < endOf (d .selection .number)))
   tells-5 = refuses-but _ 5 (ltb-says _ _)
 
   -- the place of a state that came to be is at most at the end
-  tells-full : Sound d → Tells (pick (ltb (d .place) (endOf (d .selection))) 0 5) 5 (BankFull d)
+  tells-full : Sound d → Tells (pick (ltb (d .selection .place) (endOf (d .selection .number))) 0 5) 5 (BankFull d)
   tells-full s = tells-as (
-    λ n. ⊎-elim (λ (h : d .place < endOf (d .selection)). absurd (n h))
-        (λ (h : endOf (d .selection) ≤ d .place). let k = s .place in omega arith) (split (d .place) (endOf (d .selection))),
+    λ n. let h = not-below (d .selection .place) (endOf (d .selection .number)) n in let k = s .place in omega arith,
     λ e h. omega arith,
   ) tells-5
 
-  -- a refusal: "all unchanged"
-  abbrev pub PutRow : ℕ → Type 0 → Type 0
-  PutRow number Case = Row (putOf d tables .answer) number Case ((putOf d tables .state ≡ d) × (putTables d tables byte ≡ tables))
+  -- 4 and then 5 give no other number
+  bank-misses : (r : ℕ) → eqb 4 r ≡ false → eqb 5 r ≡ false
+      → Misses (orElse (pick (namedBy (d .active) (d .selection .number)) 4 0)
+      (pick (ltb (d .selection .place) (endOf (d .selection .number))) 0 5)) r
+  bank-misses r a b =
+      misses-or (pick (namedBy (d .active) (d .selection .number)) 4 0) _ r (other r a tells-4) (other r b tells-5)
 
-  put-row : (r : ℕ) {C : Type 0} → eqb r 0 ≡ false → eqb r 5 ≡ false → (putAnswer d tables ≡ r) ↔ C → PutRow r C
+  put-row : (r : ℕ) {C : Type 0} → eqb r 0 ≡ false → eqb r 5 ≡ false → (putAnswer d tables ≡ r) ↔ C
+      → PutRow d tables byte r C
   unfolding putOf putState putTables
   put-row r nz n5 f = record { only = f .0; when = f .1; leaves = λ q. (rw (q, nz, n5), rw (q, nz)) }
 
-  pub put-6 : PutRow 6 (WrongTables tables)
+  pub put-6 : PutRow d tables byte 6 (WrongTables tables)
   unfolding putAnswer
-  put-6 = put-row 6 refl refl (own refl _ (tells-6 tables) (misses-or (pick (d .selected) 0 3) _ 6 (other 6 refl tells-3)
-      (misses-or (pick (namedBy (d .active) (d .selection)) 4 0) _ 6 (other 6 refl tells-4) (other 6 refl tells-5))))
+  put-6 = put-row 6 refl refl (own refl _ (tells-6 tables)
+      (misses-or (pick (d .selection .made) 0 3) _ 6 (other 6 refl tells-3) (bank-misses 6 refl refl)))
 
-  pub put-3 : PutRow 3 ((¬ WrongTables tables) × NotSelected d)
+  pub put-3 : PutRow d tables byte 3 ((¬ WrongTables tables) × NotSelected d)
   unfolding putAnswer
   put-3 = put-row 3 refl refl (past refl _ 3 refl (tells-6 tables) (own refl _ tells-3
-      (misses-or (pick (namedBy (d .active) (d .selection)) 4 0) _ 3 (other 3 refl tells-4) (other 3 refl tells-5))))
+      (bank-misses 3 refl refl)))
 
-  pub put-4 : PutRow 4 ((¬ WrongTables tables) × ((¬ NotSelected d) × BankActive d))
+  pub put-4 : PutRow d tables byte 4 ((¬ WrongTables tables) × ((¬ NotSelected d) × BankActive d))
   unfolding putAnswer
-  put-4 = put-row 4 refl refl (past refl _ 4 refl (tells-6 tables) (past refl _ 4 refl tells-3 (own refl _ tells-4 (other 4 refl tells-5))))
+  put-4 = put-row 4 refl refl (past refl _ 4 refl (tells-6 tables)
+      (past refl _ 4 refl tells-3 (own refl _ tells-4 (other 4 refl tells-5))))
 
   -- "error bit 4g+1 set, else unchanged"
-  pub put-5 : Sound d → Row (putOf d tables .answer) 5 ((¬ WrongTables tables) × ((¬ NotSelected d) × ((¬ BankActive d) × BankFull d)))
-      ((putOf d tables .state ≡ withErrors d (bitOr (d .errors) (2 ^ (4 * controllerOf (d .selection) + 1)))) × (putTables d tables byte ≡ tables))
+  pub put-5 : Sound d
+      → Row (putOf d tables .answer) 5 ((¬ WrongTables tables) × ((¬ NotSelected d) × ((¬ BankActive d) × BankFull d)))
+      ((putOf d tables .state ≡ withErrors d (bitOr (d .errors) (2 ^ (4 * controllerOf (d .selection .number) + 1))))
+      × (putTables d tables byte ≡ tables))
   unfolding putAnswer putOf putState putTables
   put-5 s =
-      let f = past refl _ 5 refl (tells-6 tables) (past refl _ 5 refl tells-3 (past refl _ 5 refl tells-4 (given-when refl (tells-full s)))) in
+      let f = past refl _ 5 refl (tells-6 tables)
+      (past refl _ 5 refl tells-3 (past refl _ 5 refl tells-4 (given-when refl (tells-full s)))) in
       record { only = f .0; when = f .1; leaves = λ q. (rw q, rw q) }
 
   -- "Each put stores one byte and moves the place by one."
-  pub put-0 : Sound d → Row (putOf d tables .answer) 0 ((¬ WrongTables tables) × ((¬ NotSelected d) × ((¬ BankActive d) × (¬ BankFull d))))
-      ((putOf d tables .state ≡ withPlace d (d .place + 1)) × (putTables d tables byte ≡ set tables (firstByteOf (d .selection) + d .place) byte))
+  pub put-0 : Sound d → Row (putOf d tables .answer) 0
+      ((¬ WrongTables tables) × ((¬ NotSelected d) × ((¬ BankActive d) × (¬ BankFull d))))
+      ((putOf d tables .state ≡ withPlace d (d .selection .place + 1))
+      × (putTables d tables byte ≡ set tables (firstByteOf (d .selection .number) + d .selection .place) byte))
   unfolding putAnswer putOf putState putTables
   put-0 s =
-      let f = past refl _ 0 refl (tells-6 tables) (past refl _ 0 refl tells-3 (past refl _ 0 refl tells-4 (passed-when refl (tells-full s)))) in
+      let f = past refl _ 0 refl (tells-6 tables)
+      (past refl _ 0 refl tells-3 (past refl _ 0 refl tells-4 (passed-when refl (tells-full s)))) in
       record { only = f .0; when = f .1; leaves = λ q. (rw q, rw q) }
 
 -- ---- the host entry: "Order 16, 7, 8, 9 and 10, 11, 13, 6, 14."
 
 module _ (image : List ℕ) (frame : ℕ) (tables pictures out : List ℕ) where
-  -- "every refusal leaves the output unchanged"
-  abbrev pub HostRow : ℕ → Type 0 → Type 0
-  HostRow number Case = Row (hostAnswer image frame tables pictures out) number Case (hostOutput image frame tables pictures out ≡ out)
-
   tells-16 : Tells (pick (eqb (length image) 208) 0 16) 16 (WrongImage image)
   tells-16 = refuses-but _ 16 (eqb-says (length image) 208)
 
-  host-row : (r : ℕ) {C : Type 0} → eqb r 0 ≡ false → (hostAnswer image frame tables pictures out ≡ r) ↔ C → HostRow r C
+  host-row : (r : ℕ) {C : Type 0} → eqb r 0 ≡ false → (hostAnswer image frame tables pictures out ≡ r) ↔ C
+      → HostRow image frame tables pictures out r C
   unfolding hostOutput
   host-row r nz f = record { only = f .0; when = f .1; leaves = λ q. rw (ne-eqb _ 0 (over-zero nz q)) }
 
   -- 7 to 11
-  host-checked : (r : ℕ) {C : Type 0} → eqb r 0 ≡ false → eqb 16 r ≡ false → Misses (lent (wordsOf image) out tables pictures) r
-      → (checkOf (wordsOf image) ≡ r) ↔ C → HostRow r ((¬ WrongImage image) × C)
+  host-checked : (r : ℕ) {C : Type 0} → eqb r 0 ≡ false → eqb 16 r ≡ false
+      → Misses (lent (wordsOf image) out tables pictures) r
+      → (checkOf (wordsOf image) ≡ r) ↔ C → HostRow image frame tables pictures out r ((¬ WrongImage image) × C)
   unfolding hostAnswer paintRefusal
   host-checked r nz n m f = host-row r nz (past refl _ r n tells-16 (or-first (checkOf (wordsOf image)) _ r nz m f))
 
-  -- 13, 6, 14 and 0: words without a fault have a size
+  -- 13, 6, 14 and 0: accepted words have a size
+  sized : (w : List ℕ) → Accepted w → ¬ NoSize w
+  sized w a =
+      ⊎-elim (λ (e : widthOf w ≡ 0). let h = a .wide in omega arith)
+      (λ (e : heightOf w ≡ 0). let h = a .tall in omega arith)
+
   host-lent : (r : ℕ) {Q : Type 0} → eqb 16 r ≡ false → Misses (checkOf (wordsOf image)) r
       → (lent (wordsOf image) out tables pictures ≡ r) ↔ ((¬ NoSize (wordsOf image)) × Q)
-      → (hostAnswer image frame tables pictures out ≡ r) ↔ ((¬ WrongImage image) × (Faultless (wordsOf image) × Q))
+      → (hostAnswer image frame tables pictures out ≡ r) ↔ ((¬ WrongImage image) × (Accepted (wordsOf image) × Q))
   unfolding hostAnswer paintRefusal
   host-lent r n m f = past refl _ r n tells-16 (
     λ q. let p = or-later (checkOf (wordsOf image)) _ r m (check-0 (wordsOf image)) f .0 q in (p .0, p .1 .1),
-    λ p. or-later (checkOf (wordsOf image)) _ r m (check-0 (wordsOf image)) f .1 (p .0, (p .0 .1 .0, p .1)),
+    λ p. or-later (checkOf (wordsOf image)) _ r m (check-0 (wordsOf image)) f .1
+        (p .0, (sized (wordsOf image) (p .0), p .1)),
   )
 
-  pub host-16 : HostRow 16 (WrongImage image)
+  pub host-16 : HostRow image frame tables pictures out 16 (WrongImage image)
   unfolding hostAnswer paintRefusal
   host-16 = host-row 16 refl (own refl _ tells-16 (misses-or (checkOf (wordsOf image)) _ 16
-      (check-misses (wordsOf image) 16 refl refl refl refl refl) (lent-misses (wordsOf image) out tables pictures 16 refl refl refl refl)))
+      (check-misses (wordsOf image) 16 refl refl refl refl refl)
+      (lent-misses (wordsOf image) out tables pictures 16 refl refl refl refl)))
 
-  pub host-7 : HostRow 7 ((¬ WrongImage image) × ReservedBit (wordsOf image))
-  host-7 = host-checked 7 refl refl (lent-misses (wordsOf image) out tables pictures 7 refl refl refl refl) (check-7 (wordsOf image))
+  pub host-7 : HostRow image frame tables pictures out 7 ((¬ WrongImage image) × ReservedBit (wordsOf image))
+  host-7 =
+      host-checked 7 refl refl (lent-misses (wordsOf image) out tables pictures 7 refl refl refl refl)
+      (check-7 (wordsOf image))
 
-  pub host-8 : HostRow 8 ((¬ WrongImage image) × Case8 (wordsOf image))
-  host-8 = host-checked 8 refl refl (lent-misses (wordsOf image) out tables pictures 8 refl refl refl refl) (check-8 (wordsOf image))
+  pub host-8 : HostRow image frame tables pictures out 8 ((¬ WrongImage image) × Case8 (wordsOf image))
+  host-8 =
+      host-checked 8 refl refl (lent-misses (wordsOf image) out tables pictures 8 refl refl refl refl)
+      (check-8 (wordsOf image))
 
-  pub host-9 : HostRow 9 ((¬ WrongImage image) × Case9 (wordsOf image))
-  host-9 = host-checked 9 refl refl (lent-misses (wordsOf image) out tables pictures 9 refl refl refl refl) (check-9 (wordsOf image))
+  pub host-9 : HostRow image frame tables pictures out 9 ((¬ WrongImage image) × Case9 (wordsOf image))
+  host-9 =
+      host-checked 9 refl refl (lent-misses (wordsOf image) out tables pictures 9 refl refl refl refl)
+      (check-9 (wordsOf image))
 
-  pub host-10 : HostRow 10 ((¬ WrongImage image) × Case10 (wordsOf image))
-  host-10 = host-checked 10 refl refl (lent-misses (wordsOf image) out tables pictures 10 refl refl refl refl) (check-10 (wordsOf image))
+  pub host-10 : HostRow image frame tables pictures out 10 ((¬ WrongImage image) × Case10 (wordsOf image))
+  host-10 =
+      host-checked 10 refl refl (lent-misses (wordsOf image) out tables pictures 10 refl refl refl refl)
+      (check-10 (wordsOf image))
 
-  pub host-11 : HostRow 11 ((¬ WrongImage image) × Case11 (wordsOf image))
-  host-11 = host-checked 11 refl refl (lent-misses (wordsOf image) out tables pictures 11 refl refl refl refl) (check-11 (wordsOf image))
+  pub host-11 : HostRow image frame tables pictures out 11 ((¬ WrongImage image) × Case11 (wordsOf image))
+  host-11 =
+      host-checked 11 refl refl (lent-misses (wordsOf image) out tables pictures 11 refl refl refl refl)
+      (check-11 (wordsOf image))
 
-  pub host-13 : HostRow 13 ((¬ WrongImage image) × (Faultless (wordsOf image) × WrongOutput (wordsOf image) out))
+  pub host-13 : HostRow image frame tables pictures out 13
+      ((¬ WrongImage image) × (Accepted (wordsOf image) × WrongOutput (wordsOf image) out))
   host-13 = host-row 13 refl
-      (host-lent 13 refl (check-misses (wordsOf image) 13 refl refl refl refl refl) (lent-13 (wordsOf image) out tables pictures))
+      (host-lent 13 refl (check-misses (wordsOf image) 13 refl refl refl refl refl)
+      (lent-13 (wordsOf image) out tables pictures))
 
-  pub host-6 : HostRow 6
-      ((¬ WrongImage image) × (Faultless (wordsOf image) × ((¬ WrongOutput (wordsOf image) out) × WrongTables tables)))
+  pub host-6 : HostRow image frame tables pictures out 6
+      ((¬ WrongImage image) × (Accepted (wordsOf image) × Case6 (wordsOf image) out tables))
   host-6 = host-row 6 refl
-      (host-lent 6 refl (check-misses (wordsOf image) 6 refl refl refl refl refl) (lent-6 (wordsOf image) out tables pictures))
+      (host-lent 6 refl (check-misses (wordsOf image) 6 refl refl refl refl refl)
+      (lent-6 (wordsOf image) out tables pictures))
 
-  pub host-14 : HostRow 14
-      ((¬ WrongImage image) × (Faultless (wordsOf image)
-      × ((¬ WrongOutput (wordsOf image) out) × ((¬ WrongTables tables) × WrongPictures (wordsOf image) pictures))))
+  pub host-14 : HostRow image frame tables pictures out 14
+      ((¬ WrongImage image) × (Accepted (wordsOf image)
+      × Case14 (wordsOf image) out tables pictures))
   host-14 = host-row 14 refl
-      (host-lent 14 refl (check-misses (wordsOf image) 14 refl refl refl refl refl) (lent-14 (wordsOf image) out tables pictures))
+      (host-lent 14 refl (check-misses (wordsOf image) 14 refl refl refl refl refl)
+      (lent-14 (wordsOf image) out tables pictures))
 
   pub host-0 : Row (hostAnswer image frame tables pictures out) 0
-      ((¬ WrongImage image) × (Faultless (wordsOf image)
-      × ((¬ WrongOutput (wordsOf image) out) × ((¬ WrongTables tables) × (¬ WrongPictures (wordsOf image) pictures)))))
+      ((¬ WrongImage image) × (Accepted (wordsOf image)
+      × BuffersFit (wordsOf image) out tables pictures))
       (hostOutput image frame tables pictures out ≡ frameOf (sceneIn image frame tables pictures))
   unfolding hostOutput
   host-0 =

@@ -3,9 +3,12 @@
 use Prim.Native.Nat.{ℕ, _<_}
 use mathlib.Core.Path.{_≡_, refl, ap, _∙_}
 use mathlib.Core.List.{List, [], _∷_, _++_}
-use borrow.Author.Tests.{eq-eqb}
+use native.Mathlib.Omega.{arith}
+use borrow.Author.Tests.{eq-eqb, ne-eqb}
 use lib.ListN.{length, getD, length-replicate, getD-replicate}
+use lib.Seq.{take-at}
 use Rattle.bytes.specs.Bytes.{indexOf}
+use Rattle.lists.proofs.Call.{pair-is, tied-meets}
 use Rattle.lists.specs.Over.{over}
 use Rattle.lists.specs.Runs.{firstOf, sumOf, run}
 use Rattle.lists.specs.Little.{littleAt}
@@ -16,34 +19,48 @@ use Rattle.words.specs.Check.{reservedAt, screenOf, placeOf, placeAt, clashOf, 
 use Rattle.words.specs.Pictures.{pictureLen, pictureLenAt, pictureStart, picturesLen}
 use Rattle.tables.specs.Geometry.{tablesLen, kindLen}
 use Rattle.mix.specs.Blend.{blendOf}
-use Rattle.paint.specs.Pixel.{overAt, covers, alphaAt, ownAt, pictureAt}
-use Rattle.paint.specs.Band.{layerStep, depthStep, bandBy, bandByte, bandOf, markAt, missing, errorsOf}
-use Rattle.paint.specs.Frame as painting
+use Rattle.frames.specs.Pixel.{overAt, covers, alphaAt, ownAt, pictureAt}
+use Rattle.frames.specs.Band.{layerStep, depthStep, bandBy, bandByte, bandOf, markAt, missing, errorsOf}
+use Rattle.frames.specs.Frame as painting
 use Rattle.display.specs.declared.Display.{Display}
 use Rattle.display.specs.State.{fresh, writeOf, selectOf, toggleOf, startOf}
 use Rattle.display.specs.Put.{putAnswer, putOf}
 use Rattle.display.specs.Paint.{fillTold, fillBytes, paintTold, paintBytes, frameTold, frameBytes}
 use Rattle.display.specs.Reached.{Reached, by-new, by-write, by-select, by-start}
+use Rattle.display.proofs.Unique.{paint-tie, frame-tie}
 use Rattle.host.specs.Host as host
+use Rattle.host.proofs.Unique.{host-tie}
 use Rattle.lines.specs.Hex.{valueOf, isHex, bytesIn, digitOf, digitsOf}
 use Rattle.lines.specs.Form.{countAt, wordAt, pastLoads, writesPlace, picturePlace, endPlace, isFormed}
 use Rattle.lines.specs.Steps.{stepOf, runOf, loadsAt, writesAt, stepsOf}
-use Rattle.lines.specs.Line.{startedOf, zeros, lentOf, framedOf, paintedOf, headOf, replyOf, endOf, workOf, doneOf, outcomeOf, textOf, lineOf}
-use Rattle.lines.specs.Blocks.{endsIn, lineIn, fedRun, lastRun}
-use Rattle.laws.specs.Small.{Write, writtenTo, onePixel, grey, night, written, started, sizeless, selecting, blank, filled, white, clear, dim, bright, image, line, page, scene, painted, framed, hostScene, hosted, printed}
+use Rattle.lines.specs.Line.{startedOf, zeros, lentOf, framedOf, paintedOf, headOf, replyOf, closedOf, workOf, doneOf}
+use Rattle.lines.specs.Line.{outcomeOf, replyText, lineOf}
+use Rattle.lines.specs.Sizes.{mostPrinted, outLen}
+use Rattle.lines.specs.Blocks.{endsIn, lineIn, fedRun, lastRun, begun, nextRun, turnOf, goesOn, turnsOf, feedOf}
+use Rattle.lines.specs.Blocks.{finishOf}
+use Rattle.lines.proofs.Unique.{run-line-tie, finish-tie, feed-tie}
+use Rattle.laws.specs.Small.{Write, writtenTo, onePixel, grey, night, written, started, sizeless, selecting}
+use Rattle.laws.specs.Small.{blank, filled, white, clear, dim, bright, image, line, page, block, slate, gathered}
+use Rattle.laws.specs.Small.{scene, painted, framed, hostScene, hosted, printed, Promised, replyWith, Paints}
+use Rattle.laws.specs.Small.{Frames, Hosts, Prints, Finishes, Feeds}
 
 -- ---- what is unfolded to compute: the words, a frame, a line
 
 unfoldable pub wordsOpen : Unit {0}
-unfolding checkOf firstOf reservedAt screenOf placeAt placeOf clashBelow clashAt clashOf layerOf picturesLen pictureLenAt pictureLen sumOf
+unfolding checkOf firstOf reservedAt screenOf placeAt placeOf clashBelow clashAt clashOf layerOf picturesLen
+    pictureLenAt pictureLen sumOf
 wordsOpen = tt
 
 unfoldable pub frameOpen : Unit {0}
-unfolding wordsOpen painting.frameOf painting.fillOf painting.fillByte bandOf bandByte bandBy depthStep layerStep run tab each overAt covers alphaAt ownAt pictureAt pictureStart blendOf
+unfolding wordsOpen painting.frameOf painting.fillOf painting.fillByte bandOf bandByte bandBy depthStep layerStep run
+    tab each overAt covers alphaAt ownAt pictureAt pictureStart blendOf
 frameOpen = tt
 
 unfoldable pub lineOpen : Unit {0}
-unfolding frameOpen errorsOf markAt missing painting.paintRefusal painting.frameAfter painting.frameTold painting.paintTold frameTold frameBytes valueOf isHex bytesIn digitOf digitsOf countAt wordAt pastLoads writesPlace picturePlace endPlace isFormed stepOf runOf loadsAt writesAt stepsOf startedOf zeros lentOf framedOf paintedOf replyOf endOf workOf doneOf outcomeOf textOf lineOf
+unfolding frameOpen errorsOf markAt missing painting.paintRefusal painting.frameAfter paintTold painting.errorsAfter
+    frameTold frameBytes valueOf isHex bytesIn digitOf digitsOf countAt wordAt pastLoads writesPlace picturePlace
+    endPlace isFormed stepOf runOf loadsAt writesAt stepsOf startedOf zeros lentOf framedOf paintedOf replyOf closedOf
+    workOf doneOf outcomeOf replyText lineOf
 lineOpen = tt
 
 -- ---- the states come to be
@@ -111,11 +128,11 @@ module _ (pictures : List ℕ) (two : length pictures ≡ 8) where
   passes = rw (eq-eqb _ _ blank-long, two)
 
   pub paint-accepted : paintTold (started grey) 0 8 blank pictures filled .answer ≡ done
-  unfolding paintTold painting.paintTold
+  unfolding paintTold painting.errorsAfter
   paint-accepted = passes
 
   pub frame-accepted : frameTold (started grey) blank pictures filled .answer ≡ done
-  unfolding frameTold painting.frameTold painting.paintTold
+  unfolding frameTold paintTold painting.errorsAfter
   frame-accepted = passes
 
   pub host-accepted : host.hostAnswer image 1 blank pictures filled ≡ done
@@ -141,14 +158,14 @@ module _ (pictures : List ℕ) (two : length pictures ≡ 8) where
   hosted-is = rw host-accepted (ap painting.frameOf host-scene)
 
 -- and so the bytes by each picture
-pub record Promised (pictures bytes : List ℕ) : Type 0 where
-  pub paint : painted pictures ≡ bytes
-  pub frame : framed pictures ≡ bytes
-  pub host : hosted pictures ≡ bytes
-
-promised : (pictures bytes : List ℕ) → length pictures ≡ 8 → painting.frameOf (scene pictures) ≡ bytes → Promised pictures bytes
+promised : (pictures bytes : List ℕ) → length pictures ≡ 8 → painting.frameOf (scene pictures) ≡ bytes
+    → Promised pictures bytes
 promised pictures bytes two is =
-    record { paint = painted-is pictures two ∙ is; frame = framed-is pictures two ∙ is; host = hosted-is pictures two ∙ is }
+    record {
+      paint = painted-is pictures two ∙ is;
+      frame = framed-is pictures two ∙ is;
+      host = hosted-is pictures two ∙ is;
+    }
 
 pub white-promised : Promised white (255 ∷ 255 ∷ 255 ∷ 255 ∷ [])
 unfolding frameOpen
@@ -176,9 +193,6 @@ night-fill = refl
 
 -- ---- a line: answer 0, no error, one by one pixel, and the frame
 
-abbrev pub replyWith : List ℕ → List ℕ
-replyWith frame = textOf (done ∷ headOf (started grey) ++ frame)
-
 -- with any tables of the right length
 module _ (t : List ℕ) (long : length t ≡ tablesLen) where
   line-white : lineOf fresh t (line white) .printed ≡ replyWith (255 ∷ 255 ∷ 255 ∷ 255 ∷ [])
@@ -197,35 +211,73 @@ module _ (t : List ℕ) (long : length t ≡ tablesLen) where
   unfolding lineOpen
   line-bright = rw (eq-eqb _ _ long)
 
--- on the page
-pub on-page : {x y : List ℕ} → x ≡ y → over x page ≡ over y page
-on-page e = ap (λ (l : List ℕ). over l page) e
+-- in n bytes
+module _ (n : ℕ) where
+  pub on-page : {x y : List ℕ} → x ≡ y → over x (page n) ≡ over y (page n)
+  on-page e = ap (λ (l : List ℕ). over l (page n)) e
 
-pub printed-white : printed white ≡ over (replyWith (255 ∷ 255 ∷ 255 ∷ 255 ∷ [])) page
-printed-white = on-page (line-white blank blank-long)
+  pub printed-white : printed n white ≡ over (replyWith (255 ∷ 255 ∷ 255 ∷ 255 ∷ [])) (page n)
+  printed-white = on-page (line-white blank blank-long)
 
-pub printed-clear : printed clear ≡ over (replyWith (100 ∷ 100 ∷ 100 ∷ 255 ∷ [])) page
-printed-clear = on-page (line-clear blank blank-long)
+  pub printed-clear : printed n clear ≡ over (replyWith (100 ∷ 100 ∷ 100 ∷ 255 ∷ [])) (page n)
+  printed-clear = on-page (line-clear blank blank-long)
 
-pub printed-dim : printed dim ≡ over (replyWith (100 ∷ 100 ∷ 100 ∷ 255 ∷ [])) page
-printed-dim = on-page (line-dim blank blank-long)
+  pub printed-dim : printed n dim ≡ over (replyWith (100 ∷ 100 ∷ 100 ∷ 255 ∷ [])) (page n)
+  printed-dim = on-page (line-dim blank blank-long)
 
-pub printed-bright : printed bright ≡ over (replyWith (101 ∷ 101 ∷ 101 ∷ 255 ∷ [])) page
-printed-bright = on-page (line-bright blank blank-long)
+  pub printed-bright : printed n bright ≡ over (replyWith (101 ∷ 101 ∷ 101 ∷ 255 ∷ [])) (page n)
+  printed-bright = on-page (line-bright blank blank-long)
 
--- ---- `finish` and `feed` run that line too
+-- ---- the end of a sheet and a block run that line too
 
-abbrev FinishesLine : List ℕ → Type 0
-FinishesLine pictures = lastRun fresh blank (line pictures) ≡ lineOf fresh blank (line pictures)
-
-pub finish-line : FinishesLine white × FinishesLine clear × FinishesLine dim × FinishesLine bright
+last-line : (pictures : List ℕ) → lastRun fresh blank (line pictures) ≡ lineOf fresh blank (line pictures)
 unfolding lastRun digitsOf
-finish-line = (refl, refl, refl, refl)
+last-line pictures =
+    let some : length (line pictures) ≡ 0 → ⊥ = λ e. omega arith in rw (ne-eqb (length (line pictures)) 0 some)
 
--- the line and its line feed as one block
-abbrev FeedsLine : List ℕ → Type 0
-FeedsLine pictures = fedRun fresh blank [] (line pictures ++ 10 ∷ []) ≡ lineOf fresh blank (line pictures)
+pub finish-line : (pictures : List ℕ)
+    → finishOf (gathered (line pictures)) blank (slate (line pictures)) ≡ lineOf fresh blank (line pictures)
+unfolding over
+finish-line pictures =
+    ap (lastRun fresh blank) (take-at (line pictures) _ (length (line pictures)) refl) ∙ last-line pictures
 
-pub feed-line : FeedsLine white × FeedsLine clear × FeedsLine dim × FeedsLine bright
-unfolding fedRun lineIn endsIn indexOf digitsOf digitOf
-feed-line = (refl, refl, refl, refl)
+-- what `feed` prints of the pictures' line
+abbrev Fed : List ℕ → Type 0
+Fed pictures = feedOf begun blank (slate []) (block pictures) .printed ≡ lineOf fresh blank (line pictures) .printed
+
+pub feed-white : Fed white
+unfolding feedOf turnsOf goesOn turnOf nextRun fedRun lineIn endsIn indexOf over digitsOf digitOf
+feed-white = refl
+
+pub feed-clear : Fed clear
+unfolding feedOf turnsOf goesOn turnOf nextRun fedRun lineIn endsIn indexOf over digitsOf digitOf
+feed-clear = refl
+
+pub feed-dim : Fed dim
+unfolding feedOf turnsOf goesOn turnOf nextRun fedRun lineIn endsIn indexOf over digitsOf digitOf
+feed-dim = refl
+
+pub feed-bright : Fed bright
+unfolding feedOf turnsOf goesOn turnOf nextRun fedRun lineIn endsIn indexOf over digitsOf digitOf
+feed-bright = refl
+
+-- ---- the output that meets a call's contract is the promised one
+
+pub paints-is : {pictures out : List ℕ} → Paints pictures out → out ≡ painted pictures
+paints-is m = pair-is .1 (tied-meets paint-tie (m .1)) .1
+
+pub frames-is : {pictures out : List ℕ} → Frames pictures out → out ≡ framed pictures
+frames-is m = pair-is .1 (tied-meets frame-tie (m .1)) .1
+
+pub hosts-is : {pictures out : List ℕ} → Hosts pictures out → out ≡ hosted pictures
+hosts-is m = pair-is .1 (tied-meets host-tie (m .1)) .1
+
+pub prints-is : (pictures : List ℕ) {out : List ℕ} → Prints pictures out → out ≡ printed mostPrinted pictures
+prints-is pictures m j = tied-meets run-line-tie (m .2) j .2
+
+pub finishes-is : (pictures : List ℕ) {out : List ℕ} → Finishes pictures out → out ≡ printed outLen pictures
+finishes-is pictures m =
+    (λ j. tied-meets finish-tie (m .2) j .2) ∙ on-page outLen (λ j. finish-line pictures j .printed)
+
+pub feeds-is : (pictures : List ℕ) {out : List ℕ} → Fed pictures → Feeds pictures out → out ≡ printed outLen pictures
+feeds-is pictures e m = (λ j. tied-meets feed-tie (m .3) j .3) ∙ on-page outLen e

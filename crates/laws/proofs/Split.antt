@@ -7,10 +7,10 @@ use native.Mathlib.Omega.{arith}
 use borrow.Author.Tests.{eq-eqb}
 use lib.ListN.{length}
 use Rattle.answers.specs.Answers.{done}
-use Rattle.paint.specs.Scene.{Scene}
-use Rattle.paint.specs.Band.{bandOf, errorsOf}
-use Rattle.paint.specs.Frame as painting
-use Rattle.paint.proofs.CallerLaws.{length-bandOf, length-fillOf, fill-is}
+use Rattle.frames.specs.Scene.{Scene}
+use Rattle.frames.specs.Band.{bandOf, errorsOf}
+use Rattle.frames.specs.Frame as painting
+use Rattle.frames.proofs.CallerLaws.{length-bandOf, length-fillOf, fill-is}
 use Rattle.display.specs.declared.Display.{Display}
 use Rattle.display.specs.State.{told, withErrors}
 use Rattle.display.proofs.Calls.{frame-fill-paint}
@@ -34,7 +34,7 @@ module _ (d : Display) (tables pictures : List ℕ) (ready : Ready (sceneWith d 
     paint-bytes = rw (eq-eqb _ 0 fits)
 
     pub paint-told : paintTold d a b tables pictures out ≡ told (withErrors d (errorsOf s a b (d .errors))) done
-    unfolding paintTold painting.paintTold
+    unfolding paintTold painting.errorsAfter
     paint-told = rw fits
 
   -- the output after it is as long as before
@@ -43,11 +43,13 @@ module _ (d : Display) (tables pictures : List ℕ) (ready : Ready (sceneWith d 
   length-paintBytes a b out ab b8 long = ap length (paint-bytes a b out ab b8 long) ∙ length-bandOf s a b out ∙ long
 
   -- a whole frame is not refused, and neither is its fill
-  frame-done : (out : List ℕ) → length out ≡ painting.frameLen (d .active) → frameTold d tables pictures out .answer ≡ done
-  unfolding frameTold painting.frameTold painting.paintTold
+  frame-done : (out : List ℕ) → length out ≡ painting.frameLen (d .active)
+      → frameTold d tables pictures out .answer ≡ done
+  unfolding frameTold paintTold painting.errorsAfter
   frame-done out long = fits 0 8 out (omega arith) (omega arith) long
 
-  length-filled : (out : List ℕ) → length out ≡ painting.frameLen (d .active) → length (fillBytes d out) ≡ painting.frameLen (d .active)
+  length-filled : (out : List ℕ) → length out ≡ painting.frameLen (d .active)
+      → length (fillBytes d out) ≡ painting.frameLen (d .active)
   unfolding fillBytes
   length-filled out long =
       ap length (fill-is s out (fits 0 8 out (omega arith) (omega arith) long)) ∙ length-fillOf (d .active)
@@ -55,7 +57,8 @@ module _ (d : Display) (tables pictures : List ℕ) (ready : Ready (sceneWith d 
 -- ---- the laws
 
 -- the band a..b and then b..c is the band a..c: bytes, answer and state
-pub split-band : (d : Display) (tables pictures out : List ℕ) (a b c : ℕ) → Ready (sceneWith d tables pictures) → length out ≡ painting.frameLen (d .active)
+pub split-band : (d : Display) (tables pictures out : List ℕ) (a b c : ℕ) → Ready (sceneWith d tables pictures)
+    → length out ≡ painting.frameLen (d .active)
     → a ≤ b → b ≤ c → c ≤ 8
     → let low = paintTold d a b tables pictures out .state in
     (paintBytes low b c tables pictures (paintBytes d a b tables pictures out) ≡ paintBytes d a c tables pictures out)
@@ -76,14 +79,17 @@ split-band d tables pictures out a b c ready long ab bc c8 =
     )
 
 -- a fill, the band 0..k and the band k..8 are one whole frame: bytes, answer and state
-pub split-frame : (d : Display) (tables pictures out : List ℕ) (k : ℕ) → Ready (sceneWith d tables pictures) → length out ≡ painting.frameLen (d .active) → k ≤ 8
+pub split-frame : (d : Display) (tables pictures out : List ℕ) (k : ℕ) → Ready (sceneWith d tables pictures)
+    → length out ≡ painting.frameLen (d .active) → k ≤ 8
     → let filled = fillBytes d out in
     let below = fillTold d out .state in
     let low = paintTold below 0 k tables pictures filled .state in
-    (paintBytes low k 8 tables pictures (paintBytes below 0 k tables pictures filled) ≡ frameBytes d tables pictures out)
-    × (paintTold low k 8 tables pictures (paintBytes below 0 k tables pictures filled) ≡ frameTold d tables pictures out)
+    let half = paintBytes below 0 k tables pictures filled in
+    (paintBytes low k 8 tables pictures half ≡ frameBytes d tables pictures out)
+    × (paintTold low k 8 tables pictures half ≡ frameTold d tables pictures out)
 unfolding fillTold
 split-frame d tables pictures out k ready long k8 =
     let one = frame-fill-paint d tables pictures out (frame-done d tables pictures ready out long) in
-    let two = split-band d tables pictures (fillBytes d out) 0 k 8 ready (length-filled d tables pictures ready out long) (omega arith) k8 (omega arith) in
+    let full = length-filled d tables pictures ready out long in
+    let two = split-band d tables pictures (fillBytes d out) 0 k 8 ready full (omega arith) k8 (omega arith) in
     (two .0 ∙ sym (one .0), two .1 ∙ sym (one .1))

@@ -8,23 +8,26 @@ use borrow.Author.Tests.{eq-eqb, le-leb}
 use lib.ListN.{length}
 use Rattle.lists.specs.Choice.{orElse}
 use Rattle.answers.specs.Answers.{done, noSize}
-use Rattle.words.specs.Check.{checkOf}
-use Rattle.paint.specs.Frame as painting
+use Rattle.words.specs.Check.{Accepted}
+use Rattle.words.proofs.CheckLaws.{accepted-check}
+use Rattle.frames.specs.Frame as painting
 use Rattle.display.specs.declared.Display.{Display}
 use Rattle.display.specs.Reached.{Reached}
 use Rattle.display.specs.Paint.{fillTold, paintTold, frameTold}
 use Rattle.display.proofs.Sound.{reached-sound}
 use Rattle.host.proofs.HostLaws.{check-sized}
-use Rattle.laws.specs.States.{Unstarted, Fitting}
+use Rattle.laws.specs.States.{Unstarted, Fitting, bufferRefusal}
 
 -- ---- the active words
 
-pub active-accepted : {d : Display} → Reached d → Unstarted d ⊎ (checkOf (d .active) ≡ done)
+pub active-accepted : {d : Display} → Reached d → Unstarted d ⊎ Accepted (d .active)
 active-accepted r = reached-sound r .accepted
 
 -- words that a start has let in have a size
 sized : {d : Display} → Reached d → (Unstarted d → ⊥) → painting.sizeRefusal (d .active) ≡ done
-sized {d} r started = ⊎-elim (λ (u : Unstarted d). absurd (started u)) (check-sized (d .active)) (active-accepted r)
+sized {d} r started =
+    ⊎-elim (λ (u : Unstarted d). absurd (started u)) (λ a. check-sized (d .active) (accepted-check (d .active) a))
+    (active-accepted r)
 
 -- ---- before the first accepted start
 
@@ -34,39 +37,34 @@ module _ (d : Display) (u : Unstarted d) (tables pictures out : List ℕ) where
   unstarted-fill = rw u
 
   pub unstarted-paint : (a b : ℕ) → a ≤ b → b ≤ 8 → paintTold d a b tables pictures out .answer ≡ noSize
-  unfolding paintTold painting.paintTold painting.paintRefusal
+  unfolding paintTold painting.errorsAfter painting.paintRefusal
   unstarted-paint a b ab b8 = rw (u, le-leb a b ab, le-leb b 8 b8)
 
   pub unstarted-frame : frameTold d tables pictures out .answer ≡ noSize
-  unfolding frameTold painting.frameTold painting.paintTold painting.paintRefusal
+  unfolding frameTold paintTold painting.errorsAfter painting.paintRefusal
   unstarted-frame = rw u
 
 -- ---- after it
 
 module _ {d : Display} (r : Reached d) (started : Unstarted d → ⊥) (tables pictures out : List ℕ) where
-  -- 13, 6, 14, in this order
-  abbrev bufferRefusal : ℕ
-  bufferRefusal =
-      orElse (painting.outputRefusal (d .active) (length out))
-      (orElse (painting.tablesRefusal (length tables)) (painting.picturesRefusal (d .active) (length pictures)))
-
   -- "painting's only refusals": 13
   pub started-fill : fillTold d out .answer ≡ painting.outputRefusal (d .active) (length out)
   unfolding fillTold painting.fillRefusal
   started-fill = rw (sized r started)
 
   -- 15, 13, 6, 14
-  pub started-paint : (a b : ℕ) → paintTold d a b tables pictures out .answer ≡ orElse (painting.bandRefusal a b) bufferRefusal
-  unfolding paintTold painting.paintTold painting.paintRefusal
+  pub started-paint : (a b : ℕ) → paintTold d a b tables pictures out .answer
+      ≡ orElse (painting.bandRefusal a b) (bufferRefusal d tables pictures out)
+  unfolding paintTold painting.errorsAfter painting.paintRefusal
   started-paint a b = rw (sized r started)
 
-  pub started-frame : frameTold d tables pictures out .answer ≡ bufferRefusal
-  unfolding frameTold painting.frameTold painting.paintTold painting.paintRefusal
+  pub started-frame : frameTold d tables pictures out .answer ≡ bufferRefusal d tables pictures out
+  unfolding frameTold paintTold painting.errorsAfter painting.paintRefusal
   started-frame = rw (sized r started)
 
   -- so with a band 0..8 or a part of it, and the buffers that the words ask for, it is done
   module _ (fits : Fitting d tables pictures out) where
-    none : bufferRefusal ≡ done
+    none : bufferRefusal d tables pictures out ≡ done
     none = rw (eq-eqb _ _ (fits .output), eq-eqb _ _ (fits .tables), eq-eqb _ _ (fits .pictures))
 
     pub fitting-fill : fillTold d out .answer ≡ done

@@ -1,5 +1,5 @@
 -- The starred figures: 01 "Bench figures", "Starred ones are the proved set." Row for row, and no
--- more. Assumes nothing.
+-- more; and the document's own line. Assumes nothing.
 use Prim.Native.Nat.{ℕ, _+_, _*_, _/_, _%_, _^_}
 use mathlib.Core.List.{List, [], _∷_, _++_}
 use Rattle.mix.specs.Blend.{blendOf}
@@ -11,6 +11,7 @@ pub record Figure : Type 0 where
   pub given : ℕ
   pub said : ℕ
 
+-- as one
 abbrev gives : ℕ → ℕ → Figure
 gives given said = record { given = given; said = said }
 
@@ -33,14 +34,17 @@ box weight =
 abbrev boxed : ℕ → ℕ → ℕ → ℕ
 boxed weight u v = indexAt (box weight) [] [] v u
 
+-- "left"
 abbrev left : ℕ
 left = 0
 
+-- "drawn"
 abbrev drawn : ℕ
 drawn = 1
 
 -- ---- the table
 
+-- row for row
 abbrev pub starred : List Figure
 starred =
     -- "Blend (a, over, under)"
@@ -62,3 +66,18 @@ starred =
     ∷ gives (boxed 1 2 2) drawn
     ∷ gives (boxed 2 3 2) drawn
     ∷ []
+
+-- ---- 01 "Sheet program and host entry": "Input .. prints .."
+
+-- `00030000000005010001000202003020100000`
+abbrev pub documentLine : List ℕ
+documentLine =
+    48 ∷ 48 ∷ 48 ∷ 51 ∷ 48 ∷ 48 ∷ 48 ∷ 48 ∷ 48 ∷ 48 ∷ 48 ∷ 48 ∷ 48 ∷ 53 ∷ 48 ∷ 49 ∷ 48 ∷ 48
+    ∷ 48 ∷ 49 ∷ 48 ∷ 48 ∷ 48 ∷ 50 ∷ 48 ∷ 50 ∷ 48 ∷ 48 ∷ 51 ∷ 48 ∷ 50 ∷ 48 ∷ 49 ∷ 48 ∷ 48 ∷ 48
+    ∷ 48 ∷ 48 ∷ []
+
+-- `000000000000020001102030FF102030FF`
+abbrev pub documentReply : List ℕ
+documentReply =
+    48 ∷ 48 ∷ 48 ∷ 48 ∷ 48 ∷ 48 ∷ 48 ∷ 48 ∷ 48 ∷ 48 ∷ 48 ∷ 48 ∷ 48 ∷ 50 ∷ 48 ∷ 48 ∷ 48 ∷ 49
+    ∷ 49 ∷ 48 ∷ 50 ∷ 48 ∷ 51 ∷ 48 ∷ 70 ∷ 70 ∷ 49 ∷ 48 ∷ 50 ∷ 48 ∷ 51 ∷ 48 ∷ 70 ∷ 70 ∷ []

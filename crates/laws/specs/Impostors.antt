@@ -6,28 +6,31 @@ use mathlib.Core.List.{List, [], _∷_}
 use lib.ListN.{take, drop}
 use lib.Dec.{eqb}
 use lib.Bits.{bitAnd}
-use Rattle.lists.specs.Choice.{pick, pickList}
+use Rattle.lists.specs.Choice.{pick, choose}
 use Rattle.lists.specs.Over.{over}
 use Rattle.lists.specs.Runs.{run}
 use Rattle.lists.specs.Steps.{through}
 use Rattle.lists.specs.Tab.{each}
 use Rattle.answers.specs.Answers.{done}
+use Rattle.mix.specs.Pixel.{pixelLen, alphaPlace, opaque}
 use Rattle.mix.specs.Blend.{blendOf}
 use Rattle.words.specs.Fields.{shownOf, widthOf, layerOf}
-use Rattle.paint.specs.Scene.{Scene}
-use Rattle.paint.specs.Pixel.{alphaAt, ownAt, covers, acrossOf, downOf, overAt}
-use Rattle.paint.specs.Band.{bandBy, pixelAt}
-use Rattle.paint.specs.Frame.{fillOf}
-use Rattle.paint.specs.Plan.{bandLayers}
+use Rattle.words.specs.Order.{bandLayers}
+use Rattle.frames.specs.Scene.{Scene}
+use Rattle.frames.specs.Pixel.{alphaAt, ownAt, covers, acrossOf, downOf, overAt}
+use Rattle.frames.specs.Band.{bandBy, pixelAt}
+use Rattle.frames.specs.Frame.{fillOf}
 use Rattle.display.specs.declared.Display.{Display}
 use Rattle.display.specs.declared.Told.{Told}
-use Rattle.display.specs.State.{fresh, told, pickTold, withErrors, startOf}
+use Rattle.display.specs.State.{fresh, told, withErrors, startOf}
 use Rattle.display.specs.Paint.{sceneWith}
+use Rattle.lines.specs.Sizes.{mostPrinted, outLen}
 use Rattle.lines.specs.Hex.{bytesIn}
 use Rattle.lines.specs.Form.{picturePlace}
 use Rattle.lines.specs.Steps.{Midway, midway, runOf, stepsOf}
-use Rattle.lines.specs.Line.{startedOf, framedOf, replyOf, textOf}
-use Rattle.laws.specs.Small.{blank, filled, white, line, page, scene, painted, framed, hostScene, hosted, printed}
+use Rattle.lines.specs.Line.{startedOf, framedOf, replyOf, replyText}
+use Rattle.laws.specs.Small.{blank, filled, white, line, page, scene, hostScene, Paints, Frames, Hosts, Prints}
+use Rattle.laws.specs.Small.{Finishes, Feeds}
 
 -- ---- of any call
 
@@ -53,7 +56,7 @@ andNot d bits = told (withErrors d (bitAnd (d .errors) (2 ^ 32 - 1 - bits))) don
 
 -- "Stopping the frame number on a refused start."
 abbrev pub stoppedStart : Display → Told
-stoppedStart d = pickTold (eqb (startOf d .answer) done) (startOf d) (told d (startOf d .answer))
+stoppedStart d = choose (eqb (startOf d .answer) done) (startOf d) (told d (startOf d .answer))
 
 -- ---- of painting
 
@@ -61,37 +64,42 @@ stoppedStart d = pickTold (eqb (startOf d .answer) done) (startOf d) (told d (st
 abbrev pub Rule : Type 0
 Rule = Scene → ℕ → ℕ → ℕ → ℕ → ℕ → ℕ → ℕ
 
--- a band, a frame and a line of a sheet, painted by a rule; the line is a well formed one
+-- a byte of the output by a rule, as `bandByte` has it
 abbrev pub byteBy : Rule → Scene → ℕ → ℕ → ℕ → ℕ → ℕ
 byteBy rule s a b i p =
-    pick (eqb (i % 4) 3) p (rule s (i / 4 % widthOf (s .words)) (i / 4 / widthOf (s .words)) (i % 4) a b p)
+    pick (eqb (i % pixelLen) alphaPlace) p
+    (rule s (i / pixelLen / widthOf (s .words)) (i / pixelLen % widthOf (s .words)) (i % pixelLen) a b p)
 
+-- a band
 abbrev pub paintedBy : Rule → Scene → ℕ → ℕ → List ℕ → List ℕ
-paintedBy rule s a b out = pickList (shownOf (s .words)) (each (byteBy rule s a b) out) out
+paintedBy rule s a b out = choose (shownOf (s .words)) (each (byteBy rule s a b) out) out
 
+-- a frame
 abbrev pub framedBy : Rule → Scene → List ℕ
 framedBy rule s = paintedBy rule s 0 8 (fillOf (s .words))
 
+-- the reply of a line after its steps
 abbrev pub repliedBy : Rule → Midway → List ℕ → List ℕ
 repliedBy rule m pictures =
     replyOf (framedOf (startedOf (m .told)) (m .tables) pictures)
     (framedBy rule (sceneWith (startedOf (m .told) .state) (m .tables) pictures))
 
+-- the text that a well formed line prints
 abbrev pub printedBy : Rule → Display → List ℕ → List ℕ → List ℕ
 printedBy rule d tables text =
     let b = bytesIn text in
-    textOf (repliedBy rule (runOf (midway (told d done) tables) (stepsOf b)) (drop (picturePlace b + 2) b))
+    replyText (repliedBy rule (runOf (midway (told d done) tables) (stepsOf b)) (drop (picturePlace b + 2) b))
 
 -- "one that paints the lowest layer and for the others only answers 0 (demand 2 ..)"
 abbrev pub lowest : Rule
-lowest s x y c a b under = through (overAt s x y c) (take 1 (bandLayers (s .words) a b)) under
+lowest s y x c a b under = through (overAt s y x c) (take 1 (bandLayers (s .words) a b)) under
 
 -- a layer over a pixel as `overAt` has it, with another blend
 abbrev pub overBy : (ℕ → ℕ → ℕ → ℕ) → Scene → ℕ → ℕ → ℕ → ℕ → ℕ → ℕ
-overBy blend s x y c n under =
-    pick (covers (layerOf (s .words) n) x y)
-    (blend (alphaAt s n (acrossOf (layerOf (s .words) n) x) (downOf (layerOf (s .words) n) y))
-    (ownAt s n (acrossOf (layerOf (s .words) n) x) (downOf (layerOf (s .words) n) y) c)
+overBy blend s y x c n under =
+    pick (covers (layerOf (s .words) n) y x)
+    (blend (alphaAt s n (downOf (layerOf (s .words) n) y) (acrossOf (layerOf (s .words) n) x))
+    (ownAt s n (downOf (layerOf (s .words) n) y) (acrossOf (layerOf (s .words) n) x) c)
     under)
     under
 
@@ -99,25 +107,47 @@ overBy blend s x y c n under =
 abbrev pub blend256 : ℕ → ℕ → ℕ → ℕ
 blend256 a over under = (a * over + (255 - a) * under + 127) / 256
 
+-- with that blend
 abbrev pub by256 : Rule
-by256 s x y c a b under = bandBy (s .words) (overBy blend256 s x y c) a b under
+by256 s y x c a b under = bandBy (s .words) (overBy blend256 s y x c) a b under
 
 -- "Taking layer number for depth.": the band's ends are layer numbers, and a greater number lies on top
 abbrev pub numbered : Rule
-numbered s x y c a b under = run a (b - a) (λ n p. pick (layerOf (s .words) n .on) (overAt s x y c n p) p) under
+numbered s y x c a b under = run a (b - a) (λ n p. pick (layerOf (s .words) n .on) (overAt s y x c n p) p) under
 
--- "Blending all layers' colours first and the background last.": the layers over nothing, and then, by
--- whatever rule `last`, what they gave, how much of 255 they let through, and what was under them
+-- what a layer lets through of what is under it
 abbrev pub dimmed : ℕ → ℕ → ℕ → ℕ
 dimmed a over under = blendOf a 0 under
 
+-- "Blending all layers' colours first and the background last.": the layers over nothing, and then, by
+-- whatever rule `last`, what they gave, how much of 255 they let through, and what was under them
 abbrev pub groundLast : (ℕ → ℕ → ℕ → ℕ) → Rule
-groundLast last s x y c a b under = last (pixelAt s x y c a b 0) (bandBy (s .words) (overBy dimmed s x y c) a b 255) under
+groundLast last s y x c a b under =
+    last (pixelAt s y x c a b 0) (bandBy (s .words) (overBy dimmed s y x c) a b opaque) under
 
--- ---- a rule that breaks the promise of each call that paints, with the white picture
+-- ---- the outputs by a rule, of the calls on the small inputs, by the pictures
 
+-- of paint
+abbrev pub paintBy : Rule → List ℕ → List ℕ
+paintBy rule pictures = paintedBy rule (scene pictures) 0 8 filled
+
+-- of frame
+abbrev pub frameBy : Rule → List ℕ → List ℕ
+frameBy rule pictures = framedBy rule (scene pictures)
+
+-- of the host entry
+abbrev pub hostBy : Rule → List ℕ → List ℕ
+hostBy rule pictures = framedBy rule (hostScene pictures)
+
+-- of a line, of the end of a sheet and of a block, in n bytes
+abbrev pub lineBy : Rule → ℕ → List ℕ → List ℕ
+lineBy rule n pictures = over (printedBy rule fresh blank (line pictures)) (page n)
+
+-- a rule that breaks the contract of each call that paints, with the white picture
 pub record Breaks (rule : Rule) : Type 0 where
-  pub paint : paintedBy rule (scene white) 0 8 filled ≡ painted white → ⊥
-  pub frame : framedBy rule (scene white) ≡ framed white → ⊥
-  pub host : framedBy rule (hostScene white) ≡ hosted white → ⊥
-  pub line : over (printedBy rule fresh blank (line white)) page ≡ printed white → ⊥
+  pub paint : Paints white (paintBy rule white) → ⊥
+  pub frame : Frames white (frameBy rule white) → ⊥
+  pub host : Hosts white (hostBy rule white) → ⊥
+  pub line : Prints white (lineBy rule mostPrinted white) → ⊥
+  pub finish : Finishes white (lineBy rule outLen white) → ⊥
+  pub feed : Feeds white (lineBy rule outLen white) → ⊥

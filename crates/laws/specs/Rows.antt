@@ -7,12 +7,17 @@ use mathlib.Core.Logic.{_⊎_}
 use mathlib.Core.List.{List}
 use lib.Bits.{bitAnd}
 use lib.ListN.{getD, length}
+use Rattle.mix.specs.Pixel.{pixelLen}
 use Rattle.words.specs.Fields.{updateOf, widthOf, heightOf, layerOf}
 use Rattle.words.specs.Check.{reservedBits}
 use Rattle.words.specs.Pictures.{picturesLen}
 use Rattle.tables.specs.Geometry.{tablesLen}
 use Rattle.tables.specs.Selection.{endOf, namedBy}
 use Rattle.display.specs.declared.Display.{Display}
+use Rattle.display.specs.State.{stepped, startOf}
+use Rattle.display.specs.Put.{putOf, putTables}
+use Rattle.display.specs.Paint.{fillTold, fillBytes, paintTold, paintBytes, frameTold, frameBytes}
+use Rattle.host.specs.Host.{hostAnswer, hostOutput}
 
 -- a row of the table: "No.", "Given exactly when", "Leaves"
 pub record Row (answer number : ℕ) (Case Left : Type 0) : Type 0 where
@@ -30,6 +35,7 @@ ReservedBit w = (i : ℕ) × (i < 52) × ¬ (bitAnd (getD w i 0) (getD reservedB
 abbrev pub EmptyScreen : List ℕ → Type 0
 EmptyScreen w = (widthOf w ≡ 0) ⊎ (heightOf w ≡ 0)
 
+-- an enabled layer
 abbrev pub Enabled : List ℕ → ℕ → Type 0
 Enabled w n = layerOf w n .on ≡ true
 
@@ -40,7 +46,8 @@ EmptyLayer w n = Enabled w n × ((layerOf w n .width ≡ 0) ⊎ (layerOf w n .he
 -- 10: "enabled layer with x+width > output width, or y+height > output height"
 abbrev pub OffScreen : List ℕ → ℕ → Type 0
 OffScreen w n =
-    Enabled w n × ((widthOf w < layerOf w n .x + layerOf w n .width) ⊎ (heightOf w < layerOf w n .y + layerOf w n .height))
+    Enabled w n
+    × ((widthOf w < layerOf w n .x + layerOf w n .width) ⊎ (heightOf w < layerOf w n .y + layerOf w n .height))
 
 -- layer n gives neither
 abbrev pub Passes : List ℕ → ℕ → Type 0
@@ -50,32 +57,34 @@ Passes w n = (¬ EmptyLayer w n) × (¬ OffScreen w n)
 abbrev pub FirstLayer : List ℕ → (ℕ → Type 0) → Type 0
 FirstLayer w P = (n : ℕ) × (n < 8) × P n × ((m : ℕ) → m < n → Passes w m)
 
+-- every layer passes
 abbrev pub AllPass : List ℕ → Type 0
 AllPass w = (n : ℕ) → n < 8 → Passes w n
 
 -- 11: "two enabled layers of one depth"
 abbrev pub SameDepth : List ℕ → Type 0
-SameDepth w = (n : ℕ) × (m : ℕ) × (m < n) × (n < 8) × Enabled w n × Enabled w m × (layerOf w n .depth ≡ layerOf w m .depth)
+SameDepth w =
+    (n : ℕ) × (m : ℕ) × (m < n) × (n < 8) × Enabled w n × Enabled w m × (layerOf w n .depth ≡ layerOf w m .depth)
 
 -- ---- the cases in order: "Start 7, 8, then layers 0 to 7 each 9 then 10, then 11."
 
+-- 8
 abbrev pub Case8 : List ℕ → Type 0
 Case8 w = (¬ ReservedBit w) × EmptyScreen w
 
+-- 9
 abbrev pub Case9 : List ℕ → Type 0
 Case9 w = (¬ ReservedBit w) × ((¬ EmptyScreen w) × FirstLayer w (EmptyLayer w))
 
+-- 10
 abbrev pub Case10 : List ℕ → Type 0
 Case10 w = (¬ ReservedBit w) × ((¬ EmptyScreen w) × FirstLayer w (λ n. (¬ EmptyLayer w n) × OffScreen w n))
 
+-- 11
 abbrev pub Case11 : List ℕ → Type 0
 Case11 w = (¬ ReservedBit w) × ((¬ EmptyScreen w) × (AllPass w × SameDepth w))
 
--- none of 7 to 11
-abbrev pub Faultless : List ℕ → Type 0
-Faultless w = (¬ ReservedBit w) × ((¬ EmptyScreen w) × (AllPass w × (¬ SameDepth w)))
-
--- ---- the cases, beside the check's: w are the active words, or the host's
+-- ---- the cases beside the check's, of the active words or the host's w, and of what is lent
 
 -- "if the pending update bit is set"
 abbrev pub Updates : Display → Type 0
@@ -91,7 +100,7 @@ NoSize w = EmptyScreen w
 
 -- 13: "output not 4·width·height bytes"
 abbrev pub WrongOutput : List ℕ → List ℕ → Type 0
-WrongOutput w out = ¬ (length out ≡ 4 * (widthOf w * heightOf w))
+WrongOutput w out = ¬ (length out ≡ pixelLen * (widthOf w * heightOf w))
 
 -- 6: "tables not 29,696 bytes"
 abbrev pub WrongTables : List ℕ → Type 0
@@ -101,18 +110,64 @@ WrongTables tables = ¬ (length tables ≡ tablesLen)
 abbrev pub WrongPictures : List ℕ → List ℕ → Type 0
 WrongPictures w pictures = ¬ (length pictures ≡ picturesLen w)
 
+-- "13, 6, 14": 6 with 13 not given
+abbrev pub Case6 : List ℕ → List ℕ → List ℕ → Type 0
+Case6 w out tables = (¬ WrongOutput w out) × WrongTables tables
+
+-- 14 with neither
+abbrev pub Case14 : List ℕ → List ℕ → List ℕ → List ℕ → Type 0
+Case14 w out tables pictures = (¬ WrongOutput w out) × ((¬ WrongTables tables) × WrongPictures w pictures)
+
+-- none of the three
+abbrev pub BuffersFit : List ℕ → List ℕ → List ℕ → List ℕ → Type 0
+BuffersFit w out tables pictures = (¬ WrongOutput w out) × ((¬ WrongTables tables) × (¬ WrongPictures w pictures))
+
 -- 3: "nothing selected"
 abbrev pub NotSelected : Display → Type 0
-NotSelected d = d .selected ≡ false
+NotSelected d = d .selection .made ≡ false
 
 -- 4: "the active word 3 names the selected bank"
 abbrev pub BankActive : Display → Type 0
-BankActive d = namedBy (d .active) (d .selection) ≡ true
+BankActive d = namedBy (d .active) (d .selection .number) ≡ true
 
 -- 5: "place is at the kind's end"
 abbrev pub BankFull : Display → Type 0
-BankFull d = d .place ≡ endOf (d .selection)
+BankFull d = d .selection .place ≡ endOf (d .selection .number)
 
 -- 16: "register image not 208 bytes"
 abbrev pub WrongImage : List ℕ → Type 0
 WrongImage image = ¬ (length image ≡ 208)
+
+-- ---- the rows of a call's refusals
+
+-- start: given with the pending update bit set alone; "frame number stepped, else unchanged"
+abbrev pub StartRow : Display → ℕ → Type 0 → Type 0
+StartRow d number Case = Row (startOf d .answer) number (Updates d × Case) (startOf d .state ≡ stepped d)
+
+-- put, of the tables and the byte: "all unchanged"
+abbrev pub PutRow : Display → List ℕ → ℕ → ℕ → Type 0 → Type 0
+PutRow d tables byte number Case =
+    Row (putOf d tables .answer) number Case ((putOf d tables .state ≡ d) × (putTables d tables byte ≡ tables))
+
+-- fill, of the output: "all unchanged"
+abbrev pub FillRow : Display → List ℕ → ℕ → Type 0 → Type 0
+FillRow d out number Case =
+    Row (fillTold d out .answer) number Case ((fillTold d out .state ≡ d) × (fillBytes d out ≡ out))
+
+-- paint, of the band's ends, tables, pictures and output: "all unchanged"
+abbrev pub PaintRow : Display → ℕ → ℕ → List ℕ → List ℕ → List ℕ → ℕ → Type 0 → Type 0
+PaintRow d a b tables pictures out number Case =
+    Row (paintTold d a b tables pictures out .answer) number Case
+    ((paintTold d a b tables pictures out .state ≡ d) × (paintBytes d a b tables pictures out ≡ out))
+
+-- frame, of tables, pictures and output: "all unchanged"
+abbrev pub FrameRow : Display → List ℕ → List ℕ → List ℕ → ℕ → Type 0 → Type 0
+FrameRow d tables pictures out number Case =
+    Row (frameTold d tables pictures out .answer) number Case
+    ((frameTold d tables pictures out .state ≡ d) × (frameBytes d tables pictures out ≡ out))
+
+-- the host entry, of image, frame number, tables, pictures and output: "every refusal leaves the output
+-- unchanged"
+abbrev pub HostRow : List ℕ → ℕ → List ℕ → List ℕ → List ℕ → ℕ → Type 0 → Type 0
+HostRow image frame tables pictures out number Case =
+    Row (hostAnswer image frame tables pictures out) number Case (hostOutput image frame tables pictures out ≡ out)

@@ -1,17 +1,29 @@
 -- Small inputs by name, on which wrong displays are tried. The states are made by calls from the fresh
 -- one. Assumes nothing.
 use Prim.Native.Nat.{ℕ}
+use mathlib.Core.Path.{_≡_}
 use mathlib.Core.List.{List, [], _∷_, _++_}
 use lib.ListN.{length}
+use Rattle.lists.specs.Call.{Meets}
 use Rattle.lists.specs.Over.{over}
+use Rattle.answers.specs.Answers.{done}
 use Rattle.tables.specs.Geometry.{tablesLen}
-use Rattle.paint.specs.Scene.{Scene}
+use Rattle.frames.specs.Scene.{Scene}
 use Rattle.display.specs.declared.Display.{Display}
+use Rattle.display.specs.declared.Told.{Told}
 use Rattle.display.specs.State.{fresh, writeOf, selectOf, startOf}
 use Rattle.display.specs.Paint.{sceneWith, paintBytes, frameBytes}
+use Rattle.display.proofs.Unique.{paintCall, frameCall}
 use Rattle.host.specs.Host.{sceneIn, hostOutput}
+use Rattle.host.proofs.Unique.{hostCall}
+use Rattle.lines.specs.declared.blocks.Fed.{Fed}
+use Rattle.lines.specs.declared.blocks.Going.{Going}
+use Rattle.lines.specs.declared.line.Printed.{Printed}
+use Rattle.lines.specs.Sizes.{mostKept, mostPrinted, outLen, lineFeed}
 use Rattle.lines.specs.Hex.{digitsOf}
-use Rattle.lines.specs.Line.{zeros, twoBytes, fourBytes, lineOf}
+use Rattle.lines.specs.Line.{zeros, twoBytes, fourBytes, headOf, replyText, lineOf}
+use Rattle.lines.specs.Blocks.{begun}
+use Rattle.lines.proofs.Unique.{runLineCall, feedCall, finishCall}
 use Rattle.laws.specs.Figures.{bytesOf}
 
 -- ---- words
@@ -21,6 +33,7 @@ pub record Write : Type 0 where
   pub register : ℕ
   pub value : ℕ
 
+-- as one
 abbrev word : ℕ → ℕ → Write
 word register value = record { register = register; value = value }
 
@@ -37,23 +50,26 @@ onePixel ground =
     ∷ word 13 0x0001_0001
     ∷ []
 
--- a grey background, and a black one
+-- a grey background
 abbrev pub grey : ℕ
 grey = 0x0064_6464
 
+-- and a black one
 abbrev pub night : ℕ
 night = 0
 
 -- ---- states
 
+-- a state with words written
 abbrev pub writtenTo : Display → List Write → Display
 writtenTo d [] = d
 writtenTo d (w ∷ rest) = writtenTo (writeOf d (w .register) (w .value) .state) rest
 
--- the words written, and let in by a start
+-- the words of that one pixel written
 abbrev pub written : ℕ → Display
 written ground = writtenTo fresh (onePixel ground)
 
+-- and let in by a start
 abbrev pub started : ℕ → Display
 started ground = startOf (written ground) .state
 
@@ -75,20 +91,23 @@ blank = zeros tablesLen
 abbrev pub filled : List ℕ
 filled = 100 ∷ 100 ∷ 100 ∷ 255 ∷ []
 
--- the pictures of layers 0 and 1: white over a dark colour; both clear; two that differ by the colour of
--- a faint layer 0
+-- the pictures of layers 0 and 1: white over a dark colour
 abbrev pub white : List ℕ
 white = 255 ∷ 255 ∷ 255 ∷ 255 ∷ 10 ∷ 20 ∷ 30 ∷ 255 ∷ []
 
+-- both clear
 abbrev pub clear : List ℕ
 clear = 0 ∷ 0 ∷ 0 ∷ 0 ∷ 0 ∷ 0 ∷ 0 ∷ 0 ∷ []
 
+-- a layer 0 of alpha 1 over a clear one
 abbrev faint : ℕ → List ℕ
 faint colour = colour ∷ colour ∷ colour ∷ 1 ∷ 0 ∷ 0 ∷ 0 ∷ 0 ∷ []
 
+-- two that differ by that faint colour: with the grey it is not seen
 abbrev pub dim : List ℕ
 dim = faint 128
 
+-- and it is
 abbrev pub bright : List ℕ
 bright = faint 228
 
@@ -99,37 +118,100 @@ abbrev pub imageOf : List ℕ → List ℕ
 imageOf [] = []
 imageOf (w ∷ rest) = bytesOf w ++ imageOf rest
 
+-- that of the one pixel
 abbrev pub image : List ℕ
 image = imageOf (started grey .active)
 
--- a line that writes the words and has pictures
+-- the bytes of a line's writes
 abbrev pub writesIn : List Write → List ℕ
 writesIn [] = []
 writesIn (w ∷ rest) = w .register ∷ fourBytes (w .value) ++ writesIn rest
 
+-- a line that writes the words of the one pixel and has pictures
 abbrev pub line : List ℕ → List ℕ
-line pictures = digitsOf (0 ∷ length (onePixel grey) ∷ writesIn (onePixel grey) ++ twoBytes (length pictures) ++ pictures)
+line pictures =
+    digitsOf (0 ∷ length (onePixel grey) ∷ writesIn (onePixel grey) ++ twoBytes (length pictures) ++ pictures)
 
--- the output that is lent for what it prints
-abbrev pub page : List ℕ
-page = zeros 8211
+-- that line and its line feed as one block
+abbrev pub block : List ℕ → List ℕ
+block pictures = line pictures ++ lineFeed ∷ []
 
--- ---- what is promised of them, by the pictures: the output of paint, frame, the host entry and a line
+-- the buffer that is lent to gather a line in, with the text that has come
+abbrev pub slate : List ℕ → List ℕ
+slate text = over text (zeros mostKept)
 
+-- a sheet of which this text has come
+abbrev pub gathered : List ℕ → Going
+gathered text = record { state = fresh; held = length text }
+
+-- an output of n bytes that is lent for what is printed
+abbrev pub page : ℕ → List ℕ
+page n = zeros n
+
+-- ---- what is promised of them, by the pictures
+
+-- what paint and frame paint from
 abbrev pub scene : List ℕ → Scene
 scene pictures = sceneWith (started grey) blank pictures
 
+-- the output of paint
 abbrev pub painted : List ℕ → List ℕ
 painted pictures = paintBytes (started grey) 0 8 blank pictures filled
 
+-- of frame
 abbrev pub framed : List ℕ → List ℕ
 framed pictures = frameBytes (started grey) blank pictures filled
 
+-- what the host entry paints from
 abbrev pub hostScene : List ℕ → Scene
 hostScene pictures = sceneIn image 1 blank pictures
 
+-- its output
 abbrev pub hosted : List ℕ → List ℕ
 hosted pictures = hostOutput image 1 blank pictures filled
 
-abbrev pub printed : List ℕ → List ℕ
-printed pictures = over (lineOf fresh blank (line pictures) .printed) page
+-- that of the line, in n bytes, and so of the end of a sheet and of a block
+abbrev pub printed : ℕ → List ℕ → List ℕ
+printed n pictures = over (lineOf fresh blank (line pictures) .printed) (page n)
+
+-- one frame of all that paint
+pub record Promised (pictures bytes : List ℕ) : Type 0 where
+  pub paint : painted pictures ≡ bytes
+  pub frame : framed pictures ≡ bytes
+  pub host : hosted pictures ≡ bytes
+
+-- the text of a line whose answer is 0, with no error, one by one pixel and a frame
+abbrev pub replyWith : List ℕ → List ℕ
+replyWith frame = replyText (done ∷ headOf (started grey) ++ frame)
+
+-- ---- an output that meets a call's contract, by the pictures, whatever else the call leaves
+
+-- of paint
+abbrev pub Paints : List ℕ → List ℕ → Type 0
+Paints pictures out = (t : Told) × Meets paintCall (started grey, 0, 8, blank, pictures, filled) (t, out)
+
+-- of frame
+abbrev pub Frames : List ℕ → List ℕ → Type 0
+Frames pictures out = (t : Told) × Meets frameCall (started grey, blank, pictures, filled) (t, out)
+
+-- of the host entry
+abbrev pub Hosts : List ℕ → List ℕ → Type 0
+Hosts pictures out = (answer : ℕ) × Meets hostCall (image, 1, blank, pictures, filled) (answer, out)
+
+-- of a line
+abbrev pub Prints : List ℕ → List ℕ → Type 0
+Prints pictures out =
+    (r : Printed) × (tables : List ℕ)
+    × Meets runLineCall (fresh, blank, line pictures, page mostPrinted) (r, tables, out)
+
+-- of the end of a sheet
+abbrev pub Finishes : List ℕ → List ℕ → Type 0
+Finishes pictures out =
+    (r : Printed) × (tables : List ℕ)
+    × Meets finishCall (gathered (line pictures), blank, slate (line pictures), page outLen) (r, tables, out)
+
+-- of a block
+abbrev pub Feeds : List ℕ → List ℕ → Type 0
+Feeds pictures out =
+    (r : Fed) × (tables : List ℕ) × (text : List ℕ)
+    × Meets feedCall (begun, blank, slate [], block pictures, page outLen) (r, tables, text, out)

@@ -4,9 +4,10 @@ use Prim.Native.Nat.{ℕ}
 use mathlib.Core.Path.{_≡_}
 use mathlib.Core.List.{List}
 use lib.ListN.{length, replicate}
+use Rattle.lists.specs.Choice.{orElse}
 use Rattle.words.specs.Pictures.{picturesLen}
 use Rattle.tables.specs.Geometry.{tablesLen}
-use Rattle.paint.specs.Frame.{frameLen}
+use Rattle.frames.specs.Frame.{frameLen, outputRefusal, tablesRefusal, picturesRefusal}
 use Rattle.display.specs.declared.Display.{Display}
 
 -- no start has let words in: the active words are still a fresh state's
@@ -18,3 +19,9 @@ pub record Fitting (d : Display) (t p o : List ℕ) : Type 0 where
   pub tables : length t ≡ tablesLen
   pub pictures : length p ≡ picturesLen (d .active)
   pub output : length o ≡ frameLen (d .active)
+
+-- what the buffers are refused with: 13, 6, 14, in this order
+abbrev pub bufferRefusal : Display → List ℕ → List ℕ → List ℕ → ℕ
+bufferRefusal d t p o =
+    orElse (outputRefusal (d .active) (length o))
+    (orElse (tablesRefusal (length t)) (picturesRefusal (d .active) (length p)))

@@ -1,27 +1,32 @@
--- A line gathered from blocks, as the code leaves it. Assumes nothing.
-use Prim.Native.Nat.{ℕ, _+_, _-_, _<_, _≤_, min}
+-- A line gathered from blocks and lines fed one after the other, as the code leaves them. Assumes
+-- nothing.
+use Prim.Native.Nat.{ℕ, zero, suc, _+_, _-_, _<_, _≤_, min}
 use mathlib.Core.Path.{_≡_, refl, sym, ap, _∙_}
-use mathlib.Core.Bool.{Bool, true, false}
+use mathlib.Core.Bool.{Bool, true, false, false≢true}
 use mathlib.Core.Logic.{⊎-elim}
 use mathlib.Core.List.{List, [], _++_, append-assoc, append-nil}
 use native.Mathlib.Omega.{arith}
-use lib.ListN.{length, take, drop, length-drop, length-append, length-take, drop-of-length-le}
-use lib.Seq.{length-take-le, take-all, take-length, take-append-add, drop-drop}
-use borrow.Author.Tests.{lt-ltb, le-ltb, eq-eqb, ne-eqb}
+use lib.ListN.{length, take, drop, length-drop, length-append, drop-of-length-le}
+use lib.Seq.{length-take-le, take-all, take-length, take-append-add, drop-at, drop-drop}
+use lib.Dec.{ltb, leb}
+use borrow.Author.Tests.{lt-ltb, le-ltb, le-leb, eq-eqb, ne-eqb, ltb-true, leb-true}
 use Rattle.bytes.specs.Bytes.{indexOf, slice}
 use Rattle.lists.specs.Over.{over}
-use Rattle.lists.specs.Choice.{pickList}
-use Rattle.lists.proofs.Choice.{split}
+use Rattle.lists.proofs.Choice.{split, both-left, both-right}
 use Rattle.lists.proofs.Over.{over-none, take-over}
-use Rattle.display.specs.declared.Display.{Display}
+use Rattle.lines.specs.declared.blocks.Going.{Going}
 use Rattle.lines.specs.declared.blocks.Fed.{Fed}
 use Rattle.lines.specs.declared.line.Printed.{Printed}
+use Rattle.lines.specs.Sizes.{mostKept, mostPrinted, outLen, lineFeed}
 use Rattle.lines.specs.Line.{Ran, lineOf, printedOf}
-use Rattle.lines.specs.Blocks.{keptOf, endsIn, lineIn, heldIn, usedIn, fedRun, fedOf, lastRun}
+use Rattle.lines.specs.Blocks.{keptOf, endsIn, lineIn, usedIn, fedRun, lastRun, lineBegun, Batch, nextRun}
+use Rattle.lines.specs.Blocks.{turnOf, goesOn, turnsOf, feedOf, fedOf, finishOf}
+use Rattle.lines.specs.Engine.Turns.{lineRun, lineFed, batchAt}
 
 -- ---- `keep`: n bytes are held, m of the part p have room behind them in s
 
-module _ (s p : List ℕ) (held n m : ℕ) (long : length s ≡ 8193) (en : n ≡ min held 8193) (em : m ≡ min (length p) (8193 - n)) where
+module _ (s p : List ℕ) (held n m : ℕ) (long : length s ≡ mostKept) (en : n ≡ min held mostKept)
+    (em : m ≡ min (length p) (mostKept - n)) where
   pub held-long : length (take n s) ≡ n
   held-long = length-take-le n s (omega arith)
 
@@ -31,23 +36,23 @@ module _ (s p : List ℕ) (held n m : ℕ) (long : length s ≡ 8193) (en : n �
   held-is : take held s ≡ take n s
   held-is =
       ⊎-elim
-      (λ (h : held < 8194). ap (λ (k : ℕ). take k s) (let q : held ≡ n = omega arith in q))
-      (λ (h : 8194 ≤ held). take-all held s (omega arith) ∙ sym (take-all n s (omega arith)))
-      (split held 8194)
+      (λ (h : held < mostKept). ap (λ (k : ℕ). take k s) (let q : held ≡ n = omega arith in q))
+      (λ (h : mostKept ≤ held). take-all held s (omega arith) ∙ sym (take-all n s (omega arith)))
+      (split held mostKept)
 
-  part-is : take (8193 - n) p ≡ take m p
+  part-is : take (mostKept - n) p ≡ take m p
   part-is =
       ⊎-elim
-      (λ (h : length p < 8193 - n). take-all (8193 - n) p (omega arith) ∙ sym (take-all m p (omega arith)))
-      (λ (h : 8193 - n ≤ length p). ap (λ (k : ℕ). take k p) (let q : 8193 - n ≡ m = omega arith in q))
-      (split (length p) (8193 - n))
+      (λ (h : length p < mostKept - n). take-all (mostKept - n) p (omega arith) ∙ sym (take-all m p (omega arith)))
+      (λ (h : mostKept - n ≤ length p). ap (λ (k : ℕ). take k p) (let q : mostKept - n ≡ m = omega arith in q))
+      (split (length p) (mostKept - n))
 
   kept-is : keptOf (take held s) p ≡ take n s ++ take m p
   kept-is =
-      let q : 8193 ≡ length (take n s) + (8193 - n) = omega (arith, held-long) in
-      ap (λ (l : List ℕ). take 8193 (l ++ p)) held-is
+      let q : mostKept ≡ length (take n s) + (mostKept - n) = omega (arith, held-long) in
+      ap (λ (l : List ℕ). take mostKept (l ++ p)) held-is
       ∙ ap (λ (k : ℕ). take k (take n s ++ p)) q
-      ∙ take-append-add (take n s) p (8193 - n)
+      ∙ take-append-add (take n s) p (mostKept - n)
       ∙ ap (λ (l : List ℕ). take n s ++ l) part-is
 
   pub kept-long : n + m ≡ length (keptOf (take held s) p)
@@ -59,7 +64,8 @@ module _ (s p : List ℕ) (held n m : ℕ) (long : length s ≡ 8193) (en : n �
       let a : length (drop n s) ≡ length s - n = length-drop n s in
       omega (arith, part-long, length-take-le (length s - n) (drop n s) (omega arith))
 
-  pub kept-over : (c : List ℕ) → c ≡ take (length (take m p)) (take m p) ++ drop (length (take m p)) (take (length s - n) (drop n s))
+  pub kept-over : (c : List ℕ) → c ≡ take (length (take m p)) (take m p) ++ drop (length (take m p))
+      (take (length s - n) (drop n s))
       → take n s ++ (c ++ drop (length s - n) (drop n s)) ≡ over (keptOf (take held s) p) s
   unfolding over
   kept-over c e =
@@ -76,87 +82,271 @@ module _ (s p : List ℕ) (held n m : ℕ) (long : length s ≡ 8193) (en : n �
       ∙ ap (λ (k : ℕ). (take n s ++ take m p) ++ drop k s) kept-long
       ∙ ap (λ (l : List ℕ). l ++ drop (length (keptOf (take held s) p)) s) (sym kept-is)
 
--- ---- `feed_in`: the line feed is found at `at`, and what has come of the line is kept in u
+-- ---- `feed_line`: the line feed is found at `at`, and what has come of the line is kept in u
 
-module _ (d : Display) (t x l s u : List ℕ) (at n : ℕ) (ea : at ≡ 0 + indexOf 10 (slice 0 (length l) l))
-    (en : n ≡ length (keptOf x (take at l))) (eu : u ≡ over (keptOf x (take at l)) s) where
-  at-is : at ≡ indexOf 10 l
+module _ (g : Going) (t l s u : List ℕ) (at n : ℕ) (ea : at ≡ 0 + indexOf lineFeed (slice 0 (length l) l))
+    (en : n ≡ length (keptOf (lineBegun g s) (take at l))) (eu : u ≡ over (keptOf (lineBegun g s) (take at l)) s) where
+  at-is : at ≡ indexOf lineFeed l
   unfolding slice
   at-is =
-      let q : 0 + indexOf 10 (slice 0 (length l) l) ≡ indexOf 10 (slice 0 (length l) l) = omega arith in
-      ea ∙ q ∙ ap (indexOf 10) (take-length l)
+      let q : 0 + indexOf lineFeed (slice 0 (length l) l) ≡ indexOf lineFeed (slice 0 (length l) l) = omega arith in
+      ea ∙ q ∙ ap (indexOf lineFeed) (take-length l)
 
-  line-in : keptOf x (take at l) ≡ lineIn x l
+  line-in : keptOf (lineBegun g s) (take at l) ≡ lineIn (lineBegun g s) l
   unfolding lineIn
-  line-in = ap (λ (k : ℕ). keptOf x (take k l)) at-is
+  line-in = ap (λ (k : ℕ). keptOf (lineBegun g s) (take k l)) at-is
 
-  text-is : u ≡ over (lineIn x l) s
+  text-is : u ≡ over (lineIn (lineBegun g s) l) s
   text-is = eu ∙ ap (λ (z : List ℕ). over z s) line-in
 
-  front-is : take n u ≡ lineIn x l
-  front-is = ap (take n) eu ∙ take-over (keptOf x (take at l)) s n en ∙ line-in
+  front-is : take n u ≡ lineIn (lineBegun g s) l
+  front-is = ap (take n) eu ∙ take-over (keptOf (lineBegun g s) (take at l)) s n en ∙ line-in
 
   abbrev Feeds : Fed → List ℕ → List ℕ → List ℕ → Type 0
-  Feeds r t′ o₀ o = (r ≡ fedOf d t x l) × ((t′ ≡ fedRun d t x l .tables) × ((u ≡ over (lineIn x l) s) × ((o ≡ over (fedRun d t x l .printed) o₀) × (r .length ≤ 8211))))
+  Feeds r t′ o₀ o =
+      (r ≡ lineFed g t s l) × ((t′ ≡ lineRun g t s l .tables)
+      × ((u ≡ over (lineIn (lineBegun g s) l) s)
+      × ((o ≡ over (lineRun g t s l .printed) o₀) × (r .count ≤ mostPrinted))))
 
-  pub feed-ended : (r : Printed) (t′ o₀ o : List ℕ) → at < length l → r ≡ printedOf (lineOf d t (take n u)) → t′ ≡ lineOf d t (take n u) .tables
-      → o ≡ over (lineOf d t (take n u) .printed) o₀ → r .length ≤ 8211 → Feeds (record { state = r .state; held = 0; used = at + 1; length = r .length }) t′ o₀ o
+  pub feed-ended : (r : Printed) (t′ o₀ o : List ℕ) → at < length l → r ≡ printedOf (lineOf (g .state) t (take n u))
+      → t′ ≡ lineOf (g .state) t (take n u) .tables → o ≡ over (lineOf (g .state) t (take n u) .printed) o₀
+      → r .count ≤ mostPrinted
+      → Feeds (record { going = record { state = r .state; held = 0 }; used = at + 1; count = r .count }) t′ o₀ o
   unfolding fedRun endsIn
   feed-ended r t′ o₀ o h er et eo fits =
-      let g : indexOf 10 l < length l = omega (arith, at-is) in
-      let w : lineOf d t (take n u) ≡ lineOf d t (lineIn x l) = ap (lineOf d t) front-is in
-      simp (lt-ltb (indexOf 10 l) (length l) g) (
+      let k : indexOf lineFeed l < length l = omega (arith, at-is) in
+      let w : lineOf (g .state) t (take n u) ≡ lineOf (g .state) t (lineIn (lineBegun g s) l) =
+      ap (lineOf (g .state) t) front-is in
+      simp (lt-ltb (indexOf lineFeed l) (length l) k) (
         rw (er, w, at-is) refl,
         (et ∙ ap (λ (q : Ran). q .tables) w, (text-is, (eo ∙ ap (λ (q : Ran). over (q .printed) o₀) w, fits))),
       )
 
-  pub feed-open : (o : List ℕ) → length l ≤ at → at ≤ length l → Feeds (record { state = d; held = n; used = at; length = 0 }) t o o
+  pub feed-open : (o : List ℕ) → length l ≤ at → at ≤ length l
+      → Feeds (record { going = record { state = g .state; held = n }; used = at; count = 0 }) t o o
   unfolding fedRun endsIn
   feed-open o h k =
-      let g : length l ≤ indexOf 10 l = omega (arith, at-is) in
+      let m : length l ≤ indexOf lineFeed l = omega (arith, at-is) in
       let q : at ≡ length l = omega arith in
-      simp (le-ltb (indexOf 10 l) (length l) g) (
+      simp (le-ltb (indexOf lineFeed l) (length l) m) (
         rw (en, line-in, q) refl,
         (refl, (text-is, (over-none o, omega arith))),
       )
 
--- ---- `finish`
+-- ---- `turn`
 
-abbrev Finishes : Ran → Printed → List ℕ → List ℕ → List ℕ → Type 0
-Finishes q r t o₀ o = (r ≡ printedOf q) × ((t ≡ q .tables) × ((o ≡ over (q .printed) o₀) × (r .length ≤ 8211)))
-
-module _ (d : Display) (t x : List ℕ) where
-  pub finish-none : (o : List ℕ) → length x ≡ 0 → Finishes (lastRun d t x) (record { state = d; length = 0 }) t o o
-  unfolding lastRun
-  finish-none o h = rw (eq-eqb (length x) 0 h) (refl, (refl, (over-none o, omega arith)))
-
-  pub finish-some : (r : Printed) (t′ o₀ o : List ℕ) → (length x ≡ 0 → ⊥) → Finishes (lineOf d t x) r t′ o₀ o → Finishes (lastRun d t x) r t′ o₀ o
-  unfolding lastRun
-  finish-some r t′ o₀ o h q = rw (ne-eqb (length x) 0 h) q
-
--- ---- what a caller counts with
-
-usedIn-bounds : (l : List ℕ) → 0 < length l → (0 < usedIn l) × (usedIn l ≤ length l)
+pub usedIn-bounds : (l : List ℕ) → 0 < length l → (0 < usedIn l) × (usedIn l ≤ length l)
 unfolding endsIn
 usedIn-bounds l h =
     ⊎-elim
-    (λ (g : indexOf 10 l < length l). rw (lt-ltb (indexOf 10 l) (length l) g) (omega arith, omega arith))
-    (λ (g : length l ≤ indexOf 10 l). rw (le-ltb (indexOf 10 l) (length l) g) (h, omega arith))
-    (split (indexOf 10 l) (length l))
+    (λ (g : indexOf lineFeed l < length l). rw (lt-ltb (indexOf lineFeed l) (length l) g) (omega arith, omega arith))
+    (λ (g : length l ≤ indexOf lineFeed l). rw (le-ltb (indexOf lineFeed l) (length l) g) (h, omega arith))
+    (split (indexOf lineFeed l) (length l))
 
-heldIn-le : (x l : List ℕ) → length (heldIn x l) ≤ 8193
-unfolding lineIn
-heldIn-le x l = go (endsIn l)
+-- the rest of a list, as it is lent
+pub rest-is : (l : List ℕ) (n : ℕ) → take (length l - n) (drop n l) ≡ drop n l
+rest-is l n = take-all (length l - n) (drop n l) (simp length-drop (omega arith))
+
+-- q printed behind the first n bytes of o
+module _ (o q : List ℕ) (n : ℕ) (room : n + length q ≤ length o) where
+  front-long : length (take n o ++ q) ≡ n + length q
+  front-long =
+      let a : length (take n o) ≡ n = length-take-le n o (omega arith) in
+      simp length-append (omega arith)
+
+  printed-behind : take n o ++ (over q (take (length o - n) (drop n o)) ++ drop (length o - n) (drop n o))
+      ≡ over (take n o ++ q) o
+  unfolding over
+  printed-behind =
+      let a : length (drop n o) ≤ length o - n = simp length-drop (omega arith) in
+      let none : drop (length o - n) (drop n o) ≡ [] = drop-of-length-le (drop n o) a in
+      ap (λ (z : List ℕ). take n o ++ ((q ++ drop (length q) (take (length o - n) (drop n o))) ++ z)) none
+      ∙ ap (λ (z : List ℕ). take n o ++ z) (append-nil (q ++ drop (length q) (take (length o - n) (drop n o))))
+      ∙ ap (λ (z : List ℕ). take n o ++ (q ++ drop (length q) z)) (rest-is o n)
+      ∙ ap (λ (z : List ℕ). take n o ++ (q ++ z)) (drop-drop (length q) n o)
+      ∙ sym (append-assoc (take n o) q (drop (n + length q) o))
+      ∙ ap (λ (k : ℕ). (take n o ++ q) ++ drop k o) (sym front-long)
+
+-- f is what `feed_line` answers on the rest of the block l, and p the rest of the output
+module _ (c f : Fed) (t u l o t′ u′ p : List ℕ) (inside : c .used < length l) (room : c .count + mostPrinted ≤ outLen)
+    (long : length o ≡ outLen)
+    (ef : f ≡ lineFed (c .going) t u (take (length l - c .used) (drop (c .used) l)))
+    (et : t′ ≡ lineRun (c .going) t u (take (length l - c .used) (drop (c .used) l)) .tables)
+    (eu : u′ ≡ over (lineIn (lineBegun (c .going) u) (take (length l - c .used) (drop (c .used) l))) u)
+    (ep : p ≡ over (lineRun (c .going) t u (take (length l - c .used) (drop (c .used) l)) .printed)
+    (take (length o - c .count) (drop (c .count) o)))
+    (small : f .count ≤ mostPrinted) where
+  abbrev printed : List ℕ
+  printed = lineRun (c .going) t u (drop (c .used) l) .printed
+
+  fed-is : f ≡ lineFed (c .going) t u (drop (c .used) l)
+  fed-is = ef ∙ ap (λ (z : List ℕ). lineFed (c .going) t u z) (rest-is l (c .used))
+
+  count-is : f .count ≡ length printed
+  count-is = ap (λ (q : Fed). q .count) fed-is
+
+  out-is : take (c .count) o ++ (p ++ drop (length o - c .count) (drop (c .count) o))
+      ≡ over (take (c .count) o ++ printed) o
+  out-is =
+      ap (λ (z : List ℕ). take (c .count) o ++ (z ++ drop (length o - c .count) (drop (c .count) o)))
+      (ep ∙ ap (λ (z : List ℕ). over (lineRun (c .going) t u z .printed)
+      (take (length o - c .count) (drop (c .count) o))) (rest-is l (c .used)))
+      ∙ printed-behind o printed (c .count) (omega (arith, count-is))
+
+  front-out : take (c .count + f .count) (over (take (c .count) o ++ printed) o) ≡ take (c .count) o ++ printed
+  front-out =
+      take-over (take (c .count) o ++ printed) o (c .count + f .count)
+      (omega (arith, count-is, front-long o printed (c .count) (omega (arith, count-is))))
+
+  abbrev next : Fed
+  next = record { going = f .going; used = c .used + f .used; count = c .count + f .count }
+
+  pub turn-is : batchAt next t′ u′ (take (c .count) o ++ (p ++ drop (length o - c .count) (drop (c .count) o)))
+      ≡ turnOf l (batchAt c t u o)
+  unfolding turnOf nextRun
+  turn-is =
+      rw (out-is, front-out, et, eu, rest-is l (c .used), fed-is) refl
+
+  pub turn-bounds : (c .used < c .used + f .used) × (c .used + f .used ≤ length l) × (c .count ≤ c .count + f .count)
+      × (c .count + f .count ≤ outLen)
+  turn-bounds =
+      let a : length (drop (c .used) l) ≡ length l - c .used = length-drop (c .used) l in
+      let b = usedIn-bounds (drop (c .used) l) (omega arith) in
+      let e : f .used ≡ usedIn (drop (c .used) l) = ap (λ (q : Fed). q .used) fed-is in
+      (omega (arith, b .0), omega (arith, b .1), omega arith, omega arith)
+
+  pub turn-over : take (c .count) o ++ (p ++ drop (length o - c .count) (drop (c .count) o))
+      ≡ over (take (c .count + f .count) (take (c .count) o ++ (p ++ drop (length o - c .count) (drop (c .count) o)))) o
+  turn-over = rw (out-is, front-out) refl
+
+-- ---- `goes_on`
+
+pub goesOn-more : (n used count : ℕ) → used < n → leb (count + mostPrinted) outLen ≡ goesOn n used count
+unfolding goesOn
+goesOn-more n used count h = rw (lt-ltb used n h) refl
+
+pub goesOn-end : (n used count : ℕ) → n ≤ used → false ≡ goesOn n used count
+unfolding goesOn
+goesOn-end n used count h = rw (le-ltb used n h) refl
+
+pub goesOn-inside : (n used count : ℕ) → goesOn n used count ≡ true → (used < n) × (count + mostPrinted ≤ outLen)
+unfolding goesOn
+goesOn-inside n used count e = (
+  ltb-true used n (both-left (ltb used n) (leb (count + mostPrinted) outLen) e),
+  leb-true (count + mostPrinted) outLen (both-right (ltb used n) (leb (count + mostPrinted) outLen) e),
+)
+
+-- the first line has room, so a call moves on
+pub goesOn-first : (n used count : ℕ) → goesOn n used count ≡ false → (used ≡ 0 → count ≡ 0) → 0 < n → 0 < used
+unfolding goesOn
+goesOn-first n zero count e z h =
+    let k : count + mostPrinted ≤ outLen = omega (arith, z refl) in
+    absurd (false≢true (sym e ∙ rw (lt-ltb 0 n h, le-leb (count + mostPrinted) outLen k) refl))
+goesOn-first n (suc used) count e z h = omega arith
+
+-- ---- `feed_in`: the batch b leads to w, and turns enough are left
+
+pub record Leads (l : List ℕ) (b w : Batch) : Type 0 where
+  pub turns : ℕ
+  pub enough : length l ≤ b .used + turns
+  pub same : turnsOf turns l b ≡ w
+
+pub leads-first : (g : Going) (t u l o : List ℕ)
+    → Leads l (batchAt (record { going = g; used = 0; count = 0 }) t u o) (feedOf g t u l)
+unfolding feedOf
+leads-first g t u l o = record { turns = length l; enough = omega arith; same = refl }
+
+abbrev passes : List ℕ → Batch → Bool
+passes l b = goesOn (length l) (b .used) (length (b .printed))
+
+pub turnsOf-more : (n : ℕ) (l : List ℕ) (b : Batch) → passes l b ≡ true → turnsOf (suc n) l b ≡ turnsOf n l (turnOf l b)
+unfolding turnsOf
+turnsOf-more n l b e = rw e refl
+
+turnsOf-end : (n : ℕ) (l : List ℕ) (b : Batch) → passes l b ≡ false → turnsOf n l b ≡ b
+unfolding turnsOf
+turnsOf-end zero l b e = refl
+turnsOf-end (suc n) l b e = rw e refl
+
+leads-turn : (l : List ℕ) (b w : Batch) → Leads l b w → passes l b ≡ true → b .used < turnOf l b .used
+    → Leads l (turnOf l b) w
+leads-turn l b w k e h = go (k .turns) (k .enough) (k .same)
   where
-    go : (z : Bool) → length (pickList z [] (keptOf x (take (indexOf 10 l) l))) ≤ 8193
-    go true = omega arith
-    go false = omega (arith, length-take 8193 (x ++ take (indexOf 10 l) l))
+    go : (n : ℕ) → length l ≤ b .used + n → turnsOf n l b ≡ w → Leads l (turnOf l b) w
+    go zero m q = absurd (let i = goesOn-inside (length l) (b .used) (length (b .printed)) e .0 in omega arith)
+    go (suc n) m q = record { turns = n; enough = omega arith; same = sym (turnsOf-more n l b e) ∙ q }
 
-pub fed-bounds : (d : Display) (t x l : List ℕ) (r : Fed) → r ≡ fedOf d t x l → 0 < length l → (0 < r .used) × (r .used ≤ length l) × (r .held ≤ 8193)
-fed-bounds d t x l r e h =
-    let u : r .used ≡ usedIn l = ap (λ (p : Fed). p .used) e in
-    let v : r .held ≡ length (heldIn x l) = ap (λ (p : Fed). p .held) e in (
-      omega (arith, u, usedIn-bounds l h .0),
-      omega (arith, u, usedIn-bounds l h .1),
-      omega (arith, v, heldIn-le x l),
-    )
+leads-end : (l : List ℕ) (b w : Batch) → Leads l b w → passes l b ≡ false → b ≡ w
+leads-end l b w k e = sym (turnsOf-end (k .turns) l b e) ∙ k .same
+
+-- the same with the numbers that the code has
+module _ (l : List ℕ) (c : Fed) (t u o : List ℕ) (w : Batch) (long : c .count ≤ length o)
+    (k : Leads l (batchAt c t u o) w) where
+  printed-long : length (take (c .count) o) ≡ c .count
+  printed-long = length-take-le (c .count) o long
+
+  pub feed-turn : (c′ : Fed) (t′ u′ o′ : List ℕ) → goesOn (length l) (c .used) (c .count) ≡ true
+      → batchAt c′ t′ u′ o′ ≡ turnOf l (batchAt c t u o) → c .used < c′ .used → Leads l (batchAt c′ t′ u′ o′) w
+  feed-turn c′ t′ u′ o′ e q h =
+      let i : c′ .used ≡ turnOf l (batchAt c t u o) .used = ap (λ (b : Batch). b .used) q in
+      rw q (leads-turn l (batchAt c t u o) w k (rw printed-long e) (omega arith))
+
+  -- the loop ends
+  pub feed-is : (o₀ : List ℕ) → goesOn (length l) (c .used) (c .count) ≡ false → o ≡ over (take (c .count) o) o₀
+      → (c ≡ fedOf w) × ((t ≡ w .tables) × ((u ≡ w .text) × (o ≡ over (w .printed) o₀)))
+  feed-is o₀ e q =
+      let z : batchAt c t u o ≡ w = leads-end l (batchAt c t u o) w k (rw printed-long e) in (
+        rw (← z, printed-long) refl,
+        (
+          ap (λ (b : Batch). b .tables) z,
+          (
+            ap (λ (b : Batch). b .text) z,
+            q
+                ∙ ap (λ (b : Batch). over (b .printed) o₀) z,
+          ),
+        ),
+      )
+
+-- what is printed of a batch that went on
+pub over-over : (o₀ o o′ : List ℕ) (n m : ℕ) → n ≤ m → m ≤ length o → o ≡ over (take n o) o₀ → o′ ≡ over (take m o′) o
+    → length o′ ≡ length o → o′ ≡ over (take m o′) o₀
+unfolding over
+over-over o₀ o o′ n m h k e f z =
+    let a : length (take n o) ≡ n = length-take-le n o (omega arith) in
+    let b : length (take m o′) ≡ m = length-take-le m o′ (omega arith) in
+    let d : drop m o ≡ drop m o₀ = go a in
+    f ∙ ap (λ (i : ℕ). take m o′ ++ drop i o) b ∙ ap (λ (x : List ℕ). take m o′ ++ x) d
+    ∙ ap (λ (i : ℕ). take m o′ ++ drop i o₀) (sym b)
+  where
+    back : (l : List ℕ) → drop m l ≡ drop (m - n) (drop n l)
+    back l = ap (λ (i : ℕ). drop i l) (let q : m ≡ n + (m - n) = omega arith in q) ∙ sym (drop-drop (m - n) n l)
+
+    go : length (take n o) ≡ n → drop m o ≡ drop m o₀
+    go a =
+        back o ∙ ap (λ (l : List ℕ). drop (m - n) (drop n l)) e
+        ∙ ap (drop (m - n)) (ap (λ (i : ℕ). drop n (take n o ++ drop i o₀)) a ∙ drop-at (take n o) (drop n o₀) n a)
+        ∙ sym (back o₀)
+
+-- ---- `finish_in`: n bytes are held
+
+abbrev Finishes : Ran → Printed → List ℕ → List ℕ → List ℕ → Type 0
+Finishes q r t o₀ o = (r ≡ printedOf q) × ((t ≡ q .tables) × ((o ≡ over (q .printed) o₀) × (r .count ≤ mostPrinted)))
+
+module _ (g : Going) (t u : List ℕ) (n : ℕ) (long : length u ≡ mostKept) (en : n ≡ min (g .held) mostKept) where
+  begun-is : take n u ≡ lineBegun g u
+  begun-is = sym (held-is u [] (g .held) n 0 long en (omega arith))
+
+  begun-long : length (lineBegun g u) ≡ n
+  begun-long = ap length (sym begun-is) ∙ length-take-le n u (omega arith)
+
+  pub finish-none : (o : List ℕ) → n ≡ 0 → Finishes (finishOf g t u) (record { state = g .state; count = 0 }) t o o
+  unfolding lastRun
+  finish-none o h =
+      rw (eq-eqb (length (lineBegun g u)) 0 (omega (arith, begun-long))) (refl, (refl, (over-none o, omega arith)))
+
+  pub finish-some : (r : Printed) (t′ o₀ o : List ℕ) → (n ≡ 0 → ⊥) → Finishes (lineOf (g .state) t (take n u)) r t′ o₀ o
+      → Finishes (finishOf g t u) r t′ o₀ o
+  unfolding lastRun
+  finish-some r t′ o₀ o h q =
+      rw (ne-eqb (length (lineBegun g u)) 0 (λ (z : length (lineBegun g u) ≡ 0). h (omega (arith, begun-long))))
+      (rw begun-is at q)

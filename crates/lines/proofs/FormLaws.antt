@@ -9,7 +9,8 @@ use lib.ListN.{length, List·getD-eq-default}
 use lib.Dec.{eqb}
 use borrow.Author.Tests.{eqb-true}
 use Rattle.lines.specs.declared.form.Parts.{Parts}
-use Rattle.lines.specs.Form.{byteAt, countAt, pastLoads, writesPlace, picturePlace, endPlace, isFormed, partsOf}
+use Rattle.lines.specs.Form.{byteAt, countAt, pastLoads, writesPlace, picturePlace, endPlace, isFormed}
+use Rattle.lines.specs.Engine.Parts.{partsOf}
 
 -- a loop that counts down: one is left, none is left
 pub one-left : {n : ℕ} → 0 < n → n ≡ suc (n - 1)
@@ -21,7 +22,8 @@ none-left {n} h = omega arith
 pub byteAt-past : (l : List ℕ) (at : ℕ) → length l ≤ at → 0 ≡ byteAt l at
 byteAt-past l at h = sym (List·getD-eq-default l 0 h)
 
-pub pastLoads-turn : (b : List ℕ) (n at k w : ℕ) → 0 < n → pastLoads n b at ≡ w → k ≡ countAt b (at + 1) → pastLoads (n - 1) b (at + 3 + k) ≡ w
+pub pastLoads-turn : (b : List ℕ) (n at k w : ℕ) → 0 < n → pastLoads n b at ≡ w → k ≡ countAt b (at + 1)
+    → pastLoads (n - 1) b (at + 3 + k) ≡ w
 unfolding pastLoads
 pastLoads-turn b n at k w h e q = rw q (sym (ap (λ (m : ℕ). pastLoads m b at) (one-left h)) ∙ e)
 
@@ -29,18 +31,20 @@ pub pastLoads-end : (b : List ℕ) (n at w : ℕ) → n ≤ 0 → pastLoads n b 
 unfolding pastLoads
 pastLoads-end b n at w h e = sym (ap (λ (m : ℕ). pastLoads m b at) (none-left h)) ∙ e
 
-module _ (b : List ℕ) (w x k : ℕ) (ew : w ≡ writesPlace b) (ex : x ≡ byteAt b w) (ek : k ≡ countAt b (w + 1 + 5 * x)) where
-  picture-is : w + 1 + 5 * x ≡ picturePlace b
-  unfolding picturePlace
-  picture-is = rw (ex, ew) refl
+module _ (b : List ℕ) (w x k : ℕ) (ew : w ≡ writesPlace b) (ex : x ≡ byteAt b w) (ek : k ≡ countAt b (w + 1 + 5 * x))
+  where
+    picture-is : w + 1 + 5 * x ≡ picturePlace b
+    unfolding picturePlace
+    picture-is = rw (ex, ew) refl
 
-  end-is : w + 1 + 5 * x + 2 + k ≡ endPlace b
-  unfolding endPlace
-  end-is = rw (ek, picture-is) refl
+    end-is : w + 1 + 5 * x + 2 + k ≡ endPlace b
+    unfolding endPlace
+    end-is = rw (ek, picture-is) refl
 
-  pub parts-is : _≡_ {A = Parts} (record { good = eqb (w + 1 + 5 * x + 2 + k) (length b); writes = w; picture = w + 1 + 5 * x }) (partsOf b)
-  unfolding isFormed
-  parts-is = rw (end-is, picture-is, ew) refl
+    pub parts-is : _≡_ {A = Parts}
+        (record { good = eqb (w + 1 + 5 * x + 2 + k) (length b); writes = w; picture = w + 1 + 5 * x }) (partsOf b)
+    unfolding isFormed
+    parts-is = rw (end-is, picture-is, ew) refl
 
 -- a well formed line has its picture's byte count within
 pub picture-room : (b : List ℕ) (p : Parts) → p ≡ partsOf b → p .good ≡ true → p .picture + 2 ≤ length b

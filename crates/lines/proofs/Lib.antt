@@ -4,6 +4,8 @@ pub mod FormLaws
 pub mod StepLaws
 pub mod LineLaws
 pub mod BlockLaws
+pub mod CallLaws
 pub mod SheetLaws
+pub mod Fits
 pub mod Unique
 pub mod Worked

@@ -1,6 +1,6 @@
 -- A sheet is what its parts are: fed in blocks it prints what it prints whole, wherever a block
 -- ends, and cut between two lines it may go on in a second run. Assumes nothing.
-use Prim.Native.Nat.{ℕ, suc, _+_, _<_, _≤_}
+use Prim.Native.Nat.{ℕ, zero, suc, _+_, _<_, _≤_}
 use mathlib.Core.Path.{_≡_, refl, sym, ap, _∙_}
 use mathlib.Core.Bool.{Bool, true, false}
 use mathlib.Core.Logic.{⊎-elim}
@@ -8,188 +8,290 @@ use mathlib.Core.List.{List, [], _∷_, _++_, append-assoc, append-nil}
 use native.Mathlib.Omega.{arith}
 use native.Mathlib.Nat.{not-suc-le-zero}
 use lib.ListN.{length, take, drop}
-use lib.Seq.{take-all, take-append-le, take-take, length-take-le, drop-length, append-snoc}
-use lib.Dec.{eqb}
+use lib.Seq.{take-all, take-append-le, take-take, length-take-le, drop-length, drop-drop, append-snoc}
+use lib.Dec.{ltb, eqb}
 use borrow.Author.Tests.{ne-eqb, lt-ltb, le-ltb, lt-leb}
+use Rattle.lists.specs.Choice.{choose}
 use Rattle.bytes.specs.Bytes.{indexOf, indexAfter}
-use Rattle.lists.proofs.Choice.{split}
-use Rattle.tables.specs.Geometry.{tablesLen}
+use Rattle.lists.specs.Over.{over}
+use Rattle.lists.proofs.Choice.{split, choose-keeps}
+use Rattle.lists.proofs.Over.{take-over}
 use Rattle.display.specs.declared.Display.{Display}
-use Rattle.display.specs.State.{fresh}
-use Rattle.lines.specs.Line.{zeros, badOf, outcomeOf, Ran, idle, lineOf, pickRan}
-use Rattle.lines.specs.Sheet.{pickLines, linesFrom, after, linesOf, sheetOf, programOf}
-use Rattle.lines.specs.Blocks.{endsIn, lineIn, heldIn, usedIn, fedRun, lastRun}
+use Rattle.lines.specs.declared.blocks.Going.{Going}
+use Rattle.lines.specs.Sizes.{mostDigits, mostKept, lineFeed}
+use Rattle.lines.specs.Line.{badOf, outcomeOf, Ran, idle, lineOf}
+use Rattle.lines.specs.Sheet.{linesFrom, after, linesOf, sheetOf, firstTables, programOf}
+use Rattle.lines.specs.Blocks.{endsIn, lineIn, heldIn, usedIn, fedRun, lastRun, begun, lineBegun, Batch, openOf}
+use Rattle.lines.specs.Blocks.{restOf, nextRun, turnOf, goesOn, turnsOf, feedOf}
+use Rattle.lines.specs.Calls.{Course, againOf, callsOf, blockOf}
+use Rattle.lines.proofs.CallLaws.{blockOf-used}
 
--- ---- a line that is too long is one by its first 8,193 bytes
+-- ---- a line that is too long is one by its first bytes that are kept
 
-too-long : (d : Display) (t x : List ℕ) → 8192 < length x → outcomeOf d t x ≡ badOf d t
+too-long : (d : Display) (t x : List ℕ) → mostDigits < length x → outcomeOf d t x ≡ badOf d t
 unfolding outcomeOf
-too-long d t x h = rw (lt-leb (length x) 8192 h) refl
+too-long d t x h = rw (lt-leb (length x) mostDigits h) refl
 
-outcomeOf-short : (d : Display) (t x : List ℕ) → outcomeOf d t (take 8193 x) ≡ outcomeOf d t x
+outcomeOf-short : (d : Display) (t x : List ℕ) → outcomeOf d t (take mostKept x) ≡ outcomeOf d t x
 outcomeOf-short d t x =
     ⊎-elim
-    (λ (h : length x < 8194). ap (outcomeOf d t) (take-all 8193 x (omega arith)))
-    (λ (h : 8194 ≤ length x).
-    let l : length (take 8193 x) ≡ 8193 = length-take-le 8193 x (omega arith) in
-    too-long d t (take 8193 x) (omega arith) ∙ sym (too-long d t x (omega arith)))
-    (split (length x) 8194)
+    (λ (h : length x < mostKept + 1). ap (outcomeOf d t) (take-all mostKept x (omega arith)))
+    (λ (h : mostKept + 1 ≤ length x).
+    let l : length (take mostKept x) ≡ mostKept = length-take-le mostKept x (omega arith) in
+    too-long d t (take mostKept x) (omega arith) ∙ sym (too-long d t x (omega arith)))
+    (split (length x) (mostKept + 1))
 
-lineOf-short : (d : Display) (t x : List ℕ) → lineOf d t (take 8193 x) ≡ lineOf d t x
+lineOf-short : (d : Display) (t x : List ℕ) → lineOf d t (take mostKept x) ≡ lineOf d t x
 unfolding lineOf
 lineOf-short d t x = rw (outcomeOf-short d t x) refl
 
 -- one more byte
-short-snoc : (x : List ℕ) (y : ℕ) → take 8193 (take 8193 x ++ y ∷ []) ≡ take 8193 (x ++ y ∷ [])
+short-snoc : (x : List ℕ) (y : ℕ) → take mostKept (take mostKept x ++ y ∷ []) ≡ take mostKept (x ++ y ∷ [])
 short-snoc x y =
     ⊎-elim
-    (λ (h : length x < 8193). ap (λ (l : List ℕ). take 8193 (l ++ y ∷ [])) (take-all 8193 x (omega arith)))
-    (λ (h : 8193 ≤ length x).
-    let l : length (take 8193 x) ≡ 8193 = length-take-le 8193 x h in
-    take-append-le 8193 (take 8193 x) (y ∷ []) (omega arith) ∙ take-take 8193 8193 x (omega arith) ∙ sym (take-append-le 8193 x (y ∷ []) h))
-    (split (length x) 8193)
+    (λ (h : length x < mostKept). ap (λ (l : List ℕ). take mostKept (l ++ y ∷ [])) (take-all mostKept x (omega arith)))
+    (λ (h : mostKept ≤ length x).
+    let l : length (take mostKept x) ≡ mostKept = length-take-le mostKept x h in
+    take-append-le mostKept (take mostKept x) (y ∷ []) (omega arith) ∙ take-take mostKept mostKept x (omega arith)
+    ∙ sym (take-append-le mostKept x (y ∷ []) h))
+    (split (length x) mostKept)
 
-short-none : (x : List ℕ) → eqb (length (take 8193 x)) 0 ≡ eqb (length x) 0
+short-none : (x : List ℕ) → eqb (length (take mostKept x)) 0 ≡ eqb (length x) 0
 short-none x =
     ⊎-elim
-    (λ (h : length x < 8193). ap (λ (l : List ℕ). eqb (length l) 0) (take-all 8193 x (omega arith)))
-    (λ (h : 8193 ≤ length x).
-    let l : length (take 8193 x) ≡ 8193 = length-take-le 8193 x h in
-    ne-eqb (length (take 8193 x)) 0 (λ (q : length (take 8193 x) ≡ 0). omega arith)
+    (λ (h : length x < mostKept). ap (λ (l : List ℕ). eqb (length l) 0) (take-all mostKept x (omega arith)))
+    (λ (h : mostKept ≤ length x).
+    let l : length (take mostKept x) ≡ mostKept = length-take-le mostKept x h in
+    ne-eqb (length (take mostKept x)) 0 (λ (q : length (take mostKept x) ≡ 0). omega arith)
     ∙ sym (ne-eqb (length x) 0 (λ (q : length x ≡ 0). omega arith)))
-    (split (length x) 8193)
+    (split (length x) mostKept)
 
-first-short : (d : Display) (t x : List ℕ) (rest : List (List ℕ)) → linesOf d t (take 8193 x ∷ rest) ≡ linesOf d t (x ∷ rest)
+first-short : (d : Display) (t x : List ℕ) (rest : List (List ℕ))
+    → linesOf d t (take mostKept x ∷ rest) ≡ linesOf d t (x ∷ rest)
 unfolding linesOf
 first-short d t x rest = rw (lineOf-short d t x) refl
 
-pub linesFrom-short : (d : Display) (t x bytes : List ℕ) → linesOf d t (linesFrom (take 8193 x) bytes) ≡ linesOf d t (linesFrom x bytes)
+pub linesFrom-short : (d : Display) (t x bytes : List ℕ)
+    → linesOf d t (linesFrom (take mostKept x) bytes) ≡ linesOf d t (linesFrom x bytes)
 unfolding linesFrom
 linesFrom-short d t x [] = rw (short-none x) (go (eqb (length x) 0))
   where
-    go : (z : Bool) → linesOf d t (pickLines z [] (take 8193 x ∷ [])) ≡ linesOf d t (pickLines z [] (x ∷ []))
+    go : (z : Bool) → linesOf d t (choose z [] (take mostKept x ∷ [])) ≡ linesOf d t (choose z [] (x ∷ []))
     go true = refl
     go false = first-short d t x []
-linesFrom-short d t x (y ∷ rest) = go (λ k. linesFrom-short d t k rest) (eqb y 10)
+linesFrom-short d t x (y ∷ rest) = go (λ k. linesFrom-short d t k rest) (eqb y lineFeed)
   where
-    go : ((k : List ℕ) → linesOf d t (linesFrom (take 8193 k) rest) ≡ linesOf d t (linesFrom k rest))
-        → (z : Bool) → linesOf d t (pickLines z (take 8193 x ∷ linesFrom [] rest) (linesFrom (take 8193 x ++ y ∷ []) rest)) ≡ linesOf d t (pickLines z (x ∷ linesFrom [] rest) (linesFrom (x ++ y ∷ []) rest))
+    go : ((k : List ℕ) → linesOf d t (linesFrom (take mostKept k) rest) ≡ linesOf d t (linesFrom k rest))
+        → (z : Bool) → linesOf d t (choose z (take mostKept x ∷ linesFrom [] rest)
+        (linesFrom (take mostKept x ++ y ∷ []) rest))
+        ≡ linesOf d t (choose z (x ∷ linesFrom [] rest) (linesFrom (x ++ y ∷ []) rest))
     go f true = first-short d t x (linesFrom [] rest)
     go f false =
-        sym (f (take 8193 x ++ y ∷ []))
+        sym (f (take mostKept x ++ y ∷ []))
         ∙ ap (λ (l : List ℕ). linesOf d t (linesFrom l rest)) (short-snoc x y)
         ∙ f (x ++ y ∷ [])
 
 -- ---- the bytes l of a block, whatever comes after them
 
-linesFrom-ended : (x l more : List ℕ) → indexOf 10 l < length l
-    → linesFrom x (l ++ more) ≡ (x ++ take (indexOf 10 l) l) ∷ linesFrom [] (drop (indexOf 10 l + 1) l ++ more)
+linesFrom-ended : (x l more : List ℕ) → indexOf lineFeed l < length l
+    → linesFrom x (l ++ more) ≡ (x ++ take (indexOf lineFeed l) l) ∷ linesFrom []
+    (drop (indexOf lineFeed l + 1) l ++ more)
 unfolding linesFrom indexOf indexAfter
 linesFrom-ended x [] more h = absurd (not-suc-le-zero h)
-linesFrom-ended x (y ∷ l) more h = go (λ k g. linesFrom-ended k l more g) (eqb y 10) h
+linesFrom-ended x (y ∷ l) more h = go (λ k g. linesFrom-ended k l more g) (eqb y lineFeed) h
   where
-    go : ((k : List ℕ) → indexOf 10 l < length l → linesFrom k (l ++ more) ≡ (k ++ take (indexOf 10 l) l) ∷ linesFrom [] (drop (indexOf 10 l + 1) l ++ more))
-        → (z : Bool) → indexAfter z (indexOf 10 l) < suc (length l)
-        → pickLines z (x ∷ linesFrom [] (l ++ more)) (linesFrom (x ++ y ∷ []) (l ++ more)) ≡ (x ++ take (indexAfter z (indexOf 10 l)) (y ∷ l)) ∷ linesFrom [] (drop (indexAfter z (indexOf 10 l) + 1) (y ∷ l) ++ more)
+    go : ((k : List ℕ) → indexOf lineFeed l < length l
+        → linesFrom k (l ++ more) ≡ (k ++ take (indexOf lineFeed l) l) ∷ linesFrom []
+        (drop (indexOf lineFeed l + 1) l ++ more))
+        → (z : Bool) → indexAfter z (indexOf lineFeed l) < suc (length l)
+        → choose z (x ∷ linesFrom [] (l ++ more)) (linesFrom (x ++ y ∷ []) (l ++ more))
+        ≡ (x ++ take (indexAfter z (indexOf lineFeed l)) (y ∷ l)) ∷ linesFrom []
+        (drop (indexAfter z (indexOf lineFeed l) + 1) (y ∷ l) ++ more)
     go f true g = ap (λ (k : List ℕ). k ∷ linesFrom [] (l ++ more)) (sym (append-nil x))
     go f false g =
-        let q : suc (indexOf 10 l) + 1 ≡ suc (indexOf 10 l + 1) = omega arith in
+        let q : suc (indexOf lineFeed l) + 1 ≡ suc (indexOf lineFeed l + 1) = omega arith in
         f (x ++ y ∷ []) (omega arith)
-        ∙ ap (λ (k : List ℕ). k ∷ linesFrom [] (drop (indexOf 10 l + 1) l ++ more)) (append-snoc x y (take (indexOf 10 l) l))
-        ∙ ap (λ (n : ℕ). (x ++ y ∷ take (indexOf 10 l) l) ∷ linesFrom [] (drop n (y ∷ l) ++ more)) (sym q)
+        ∙ ap (λ (k : List ℕ). k ∷ linesFrom [] (drop (indexOf lineFeed l + 1) l ++ more))
+        (append-snoc x y (take (indexOf lineFeed l) l))
+        ∙ ap (λ (n : ℕ). (x ++ y ∷ take (indexOf lineFeed l) l) ∷ linesFrom [] (drop n (y ∷ l) ++ more)) (sym q)
 
-linesFrom-open : (x l more : List ℕ) → length l ≤ indexOf 10 l → linesFrom x (l ++ more) ≡ linesFrom (x ++ l) more
+linesFrom-open : (x l more : List ℕ) → length l ≤ indexOf lineFeed l → linesFrom x (l ++ more) ≡ linesFrom (x ++ l) more
 unfolding linesFrom indexOf indexAfter
 linesFrom-open x [] more h = ap (λ (k : List ℕ). linesFrom k more) (sym (append-nil x))
-linesFrom-open x (y ∷ l) more h = go (λ k g. linesFrom-open k l more g) (eqb y 10) h
+linesFrom-open x (y ∷ l) more h = go (λ k g. linesFrom-open k l more g) (eqb y lineFeed) h
   where
-    go : ((k : List ℕ) → length l ≤ indexOf 10 l → linesFrom k (l ++ more) ≡ linesFrom (k ++ l) more)
-        → (z : Bool) → suc (length l) ≤ indexAfter z (indexOf 10 l)
-        → pickLines z (x ∷ linesFrom [] (l ++ more)) (linesFrom (x ++ y ∷ []) (l ++ more)) ≡ linesFrom (x ++ y ∷ l) more
+    go : ((k : List ℕ) → length l ≤ indexOf lineFeed l → linesFrom k (l ++ more) ≡ linesFrom (k ++ l) more)
+        → (z : Bool) → suc (length l) ≤ indexAfter z (indexOf lineFeed l)
+        → choose z (x ∷ linesFrom [] (l ++ more)) (linesFrom (x ++ y ∷ []) (l ++ more)) ≡ linesFrom (x ++ y ∷ l) more
     go f true g = absurd (not-suc-le-zero g)
     go f false g = f (x ++ y ∷ []) (omega arith) ∙ ap (λ (k : List ℕ). linesFrom k more) (append-snoc x y l)
 
--- a call of `feed` on l, and what is left after it
-abbrev pub fedThen : Display → List ℕ → List ℕ → List ℕ → List ℕ → Ran
+-- the bytes l fed to the end of one line at most, and what is left after it
+abbrev fedThen : Display → List ℕ → List ℕ → List ℕ → List ℕ → Ran
 fedThen d t x l more =
     after (fedRun d t x l .printed)
     (linesOf (fedRun d t x l .state) (fedRun d t x l .tables) (linesFrom (heldIn x l) (drop (usedIn l) l ++ more)))
 
 -- together they are what was left before it
-pub feed-left : (d : Display) (t x l more : List ℕ) → linesOf d t (linesFrom x (l ++ more)) ≡ fedThen d t x l more
+line-left : (d : Display) (t x l more : List ℕ) → linesOf d t (linesFrom x (l ++ more)) ≡ fedThen d t x l more
 unfolding fedRun endsIn lineIn linesOf
-feed-left d t x l more =
+line-left d t x l more =
     ⊎-elim
-    (λ (h : indexOf 10 l < length l).
-    rw (lt-ltb (indexOf 10 l) (length l) h, lineOf-short d t (x ++ take (indexOf 10 l) l))
+    (λ (h : indexOf lineFeed l < length l).
+    rw (lt-ltb (indexOf lineFeed l) (length l) h, lineOf-short d t (x ++ take (indexOf lineFeed l) l))
     (ap (linesOf d t) (linesFrom-ended x l more h)))
-    (λ (h : length l ≤ indexOf 10 l).
-    rw (le-ltb (indexOf 10 l) (length l) h, take-all (indexOf 10 l) l h, drop-length l)
+    (λ (h : length l ≤ indexOf lineFeed l).
+    rw (le-ltb (indexOf lineFeed l) (length l) h, take-all (indexOf lineFeed l) l h, drop-length l)
     (ap (linesOf d t) (linesFrom-open x l more h) ∙ sym (linesFrom-short d t (x ++ l) more)))
-    (split (indexOf 10 l) (length l))
+    (split (indexOf lineFeed l) (length l))
+
+-- ---- a call on the bytes l of a block
+
+heldIn-is : (x l u : List ℕ) → take (length (heldIn x l)) (over (lineIn x l) u) ≡ heldIn x l
+heldIn-is x l u = go (endsIn l)
+  where
+    go : (z : Bool) → take (length (choose z [] (lineIn x l))) (over (lineIn x l) u) ≡ choose z [] (lineIn x l)
+    go true = refl
+    go false = take-over (lineIn x l) u (length (lineIn x l)) refl
+
+after-after : (p q : List ℕ) (r : Ran) → after p (after q r) ≡ after (p ++ q) r
+after-after p q r =
+    ap (λ (z : List ℕ). record { state = r .state; tables = r .tables; printed = z })
+    (sym (append-assoc p q (r .printed)))
+
+-- a batch, and what is left after it
+abbrev pub batchThen : List ℕ → List ℕ → Batch → Ran
+batchThen l more b =
+    after (b .printed) (linesOf (b .going .state) (b .tables) (linesFrom (openOf b) (restOf l b ++ more)))
+
+-- one line more leaves them the same together
+turnOf-left : (l more : List ℕ) (b : Batch) → batchThen l more b ≡ batchThen l more (turnOf l b)
+unfolding turnOf nextRun
+turnOf-left l more b =
+    ap (after (b .printed)) (line-left (b .going .state) (b .tables) (openOf b) (restOf l b) more)
+    ∙ after-after (b .printed) (nextRun l b .printed)
+    (linesOf (nextRun l b .state) (nextRun l b .tables)
+    (linesFrom (heldIn (openOf b) (restOf l b)) (drop (usedIn (restOf l b)) (restOf l b) ++ more)))
+    ∙ rw (heldIn-is (openOf b) (restOf l b) (b .text), drop-drop (usedIn (restOf l b)) (b .used) l) refl
+
+turnsOf-left : (n : ℕ) (l more : List ℕ) (b : Batch) → batchThen l more b ≡ batchThen l more (turnsOf n l b)
+unfolding turnsOf
+turnsOf-left zero l more b = refl
+turnsOf-left (suc n) l more b =
+    choose-keeps (λ (z : Batch). batchThen l more b ≡ batchThen l more z)
+    (goesOn (length l) (b .used) (length (b .printed))) (turnsOf n l (turnOf l b)) b
+    (λ _. turnOf-left l more b ∙ turnsOf-left n l more (turnOf l b))
+    (λ _. refl)
+
+-- what a call prints, and what is left after it, are what was left before it
+pub feed-left : (g : Going) (t u l more : List ℕ)
+    → linesOf (g .state) t (linesFrom (lineBegun g u) (l ++ more)) ≡ batchThen l more (feedOf g t u l)
+unfolding feedOf
+feed-left g t u l more =
+    turnsOf-left (length l) l more (record { going = g; tables = t; text = u; used = 0; printed = [] })
 
 -- so it does not matter whether a block ends behind l
-pub feed-border : (d : Display) (t x l m more : List ℕ) → fedThen d t x l (m ++ more) ≡ fedThen d t x (l ++ m) more
-feed-border d t x l m more =
-    sym (feed-left d t x l (m ++ more))
-    ∙ ap (λ (z : List ℕ). linesOf d t (linesFrom x z)) (sym (append-assoc l m more))
-    ∙ feed-left d t x (l ++ m) more
+pub feed-border : (g : Going) (t u l m more : List ℕ)
+    → batchThen l (m ++ more) (feedOf g t u l) ≡ batchThen (l ++ m) more (feedOf g t u (l ++ m))
+feed-border g t u l m more =
+    sym (feed-left g t u l (m ++ more))
+    ∙ ap (λ (z : List ℕ). linesOf (g .state) t (linesFrom (lineBegun g u) z)) (sym (append-assoc l m more))
+    ∙ feed-left g t u (l ++ m) more
 
 -- and what `finish` prints is all that was left
 pub finish-left : (d : Display) (t x : List ℕ) → linesOf d t (linesFrom x []) ≡ lastRun d t x
 unfolding linesFrom linesOf lastRun
 finish-left d t x = go (eqb (length x) 0)
   where
-    go : (z : Bool) → linesOf d t (pickLines z [] (x ∷ [])) ≡ pickRan z (idle d t) (lineOf d t x)
+    go : (z : Bool) → linesOf d t (choose z [] (x ∷ [])) ≡ choose z (idle d t) (lineOf d t x)
     go true = refl
-    go false = ap (λ (p : List ℕ). record { state = lineOf d t x .state; tables = lineOf d t x .tables; printed = p }) (append-nil (lineOf d t x .printed))
+    go false =
+        ap (λ (p : List ℕ). record { state = lineOf d t x .state; tables = lineOf d t x .tables; printed = p })
+        (append-nil (lineOf d t x .printed))
 
 -- ---- the program's calls
 
--- a sheet fed by calls of `feed`, each on bytes that have come and are not yet used, and then
--- `finish`: x has come of a line, and the calls make r of the bytes that are left
-pub data Fed : Display → List ℕ → List ℕ → List ℕ → Ran → Type 0 where
-  at-end : (d : Display) (t x : List ℕ) → Fed d t x [] (lastRun d t x)
-  by-feed : (d : Display) (t x l more : List ℕ) (r : Ran)
-      → Fed (fedRun d t x l .state) (fedRun d t x l .tables) (heldIn x l) (drop (usedIn l) l ++ more) r
-      → Fed d t x (l ++ more) (after (fedRun d t x l .printed) r)
+-- calls in a row make of the bytes what their lines do
+pub course-left : {g : Going} {t u bytes : List ℕ} {r : Ran} → Course g t u bytes r
+    → r ≡ linesOf (g .state) t (linesFrom (lineBegun g u) bytes)
+course-left (Course.at-end g t u) = sym (finish-left (g .state) t (lineBegun g u))
+course-left (Course.by-feed g t u l more r f) =
+    ap (after (feedOf g t u l .printed)) (course-left f) ∙ sym (feed-left g t u l more)
 
-pub fed-left : {d : Display} {t x bytes : List ℕ} {r : Ran} → Fed d t x bytes r → r ≡ linesOf d t (linesFrom x bytes)
-fed-left (at-end d t x) = sym (finish-left d t x)
-fed-left (by-feed d t x l more r f) =
-    ap (after (fedRun d t x l .printed)) (fed-left f) ∙ sym (feed-left d t x l more)
-
--- from a fresh state and zeros, they print what the program is to print, however the sheet came
-pub fed-program : (bytes : List ℕ) (r : Ran) → Fed fresh (zeros tablesLen) [] bytes r → r .printed ≡ programOf bytes
+-- from where a sheet begins, and zeros, they print what the program is to print, however the sheet came
+-- and whatever the text's buffer held
+pub course-program : (u bytes : List ℕ) (r : Ran) → Course begun firstTables u bytes r → r .printed ≡ programOf bytes
 unfolding programOf sheetOf
-fed-program bytes r f = ap (λ (q : Ran). q .printed) (fed-left f)
+course-program u bytes r f = ap (λ (q : Ran). q .printed) (course-left f)
+
+-- ---- a block in as many calls as it takes
+
+againOf-left : (l more : List ℕ) (b : Batch) → batchThen l more b ≡ batchThen l more (againOf l b)
+unfolding againOf
+againOf-left l more b =
+    let f = feedOf (b .going) (b .tables) (b .text) (restOf l b) in
+    ap (after (b .printed)) (feed-left (b .going) (b .tables) (b .text) (restOf l b) more)
+    ∙ after-after (b .printed) (f .printed)
+    (linesOf (f .going .state) (f .tables) (linesFrom (openOf f) (restOf (restOf l b) f ++ more)))
+    ∙ rw (drop-drop (f .used) (b .used) l) refl
+
+callsOf-left : (n : ℕ) (l more : List ℕ) (b : Batch) → batchThen l more b ≡ batchThen l more (callsOf n l b)
+unfolding callsOf
+callsOf-left zero l more b = refl
+callsOf-left (suc n) l more b =
+    choose-keeps (λ (z : Batch). batchThen l more b ≡ batchThen l more z) (ltb (b .used) (length l))
+    (callsOf n l (againOf l b)) b
+    (λ _. againOf-left l more b ∙ callsOf-left n l more (againOf l b))
+    (λ _. refl)
+
+block-then : (g : Going) (t u l more : List ℕ)
+    → linesOf (g .state) t (linesFrom (lineBegun g u) (l ++ more)) ≡ batchThen l more (blockOf g t u l)
+unfolding blockOf
+block-then g t u l more =
+    callsOf-left (length l) l more (record { going = g; tables = t; text = u; used = 0; printed = [] })
+
+-- the block is used up: what was left before it is what they print, and what comes after it
+pub block-left : (g : Going) (t u l more : List ℕ)
+    → linesOf (g .state) t (linesFrom (lineBegun g u) (l ++ more))
+    ≡ after (blockOf g t u l .printed)
+    (linesOf (blockOf g t u l .going .state) (blockOf g t u l .tables) (linesFrom (openOf (blockOf g t u l)) more))
+block-left g t u l more =
+    let b = blockOf g t u l in
+    block-then g t u l more
+    ∙ ap (λ (z : List ℕ). after (b .printed) (linesOf (b .going .state) (b .tables) (linesFrom (openOf b) (z ++ more))))
+    (ap (λ (k : ℕ). drop k l) (blockOf-used g t u l) ∙ drop-length l)
 
 -- ---- two runs
 
 linesOf-append : (d : Display) (t : List ℕ) (xs ys : List (List ℕ))
-    → linesOf d t (xs ++ ys) ≡ after (linesOf d t xs .printed) (linesOf (linesOf d t xs .state) (linesOf d t xs .tables) ys)
+    → linesOf d t (xs ++ ys) ≡ after (linesOf d t xs .printed)
+    (linesOf (linesOf d t xs .state) (linesOf d t xs .tables) ys)
 unfolding linesOf
 linesOf-append d t [] ys = refl
 linesOf-append d t (x ∷ xs) ys =
     let r = lineOf d t x in
+    let q = linesOf (r .state) (r .tables) xs in
     ap (after (r .printed)) (linesOf-append (r .state) (r .tables) xs ys)
-    ∙ ap (λ (p : List ℕ). record { state = linesOf (linesOf (r .state) (r .tables) xs .state) (linesOf (r .state) (r .tables) xs .tables) ys .state; tables = linesOf (linesOf (r .state) (r .tables) xs .state) (linesOf (r .state) (r .tables) xs .tables) ys .tables; printed = p })
-    (sym (append-assoc (r .printed) (linesOf (r .state) (r .tables) xs .printed) (linesOf (linesOf (r .state) (r .tables) xs .state) (linesOf (r .state) (r .tables) xs .tables) ys .printed)))
+    ∙ after-after (r .printed) (q .printed) (linesOf (q .state) (q .tables) ys)
 
-linesFrom-cut : (x a b : List ℕ) → linesFrom x (a ++ 10 ∷ b) ≡ linesFrom x (a ++ 10 ∷ []) ++ linesFrom [] b
+linesFrom-cut : (x a b : List ℕ) → linesFrom x (a ++ lineFeed ∷ b) ≡ linesFrom x (a ++ lineFeed ∷ []) ++ linesFrom [] b
 unfolding linesFrom
 linesFrom-cut x [] b = refl
-linesFrom-cut x (y ∷ a) b = go (λ k. linesFrom-cut k a b) (eqb y 10)
+linesFrom-cut x (y ∷ a) b = go (λ k. linesFrom-cut k a b) (eqb y lineFeed)
   where
-    go : ((k : List ℕ) → linesFrom k (a ++ 10 ∷ b) ≡ linesFrom k (a ++ 10 ∷ []) ++ linesFrom [] b)
-        → (z : Bool) → pickLines z (x ∷ linesFrom [] (a ++ 10 ∷ b)) (linesFrom (x ++ y ∷ []) (a ++ 10 ∷ b)) ≡ pickLines z (x ∷ linesFrom [] (a ++ 10 ∷ [])) (linesFrom (x ++ y ∷ []) (a ++ 10 ∷ [])) ++ linesFrom [] b
+    go : ((k : List ℕ) → linesFrom k (a ++ lineFeed ∷ b) ≡ linesFrom k (a ++ lineFeed ∷ []) ++ linesFrom [] b)
+        → (z : Bool) → choose z (x ∷ linesFrom [] (a ++ lineFeed ∷ b)) (linesFrom (x ++ y ∷ []) (a ++ lineFeed ∷ b))
+        ≡ choose z (x ∷ linesFrom [] (a ++ lineFeed ∷ [])) (linesFrom (x ++ y ∷ []) (a ++ lineFeed ∷ []))
+        ++ linesFrom [] b
     go f true = ap (λ (l : List (List ℕ)). x ∷ l) (f [])
     go f false = f (x ++ y ∷ [])
 
 -- a sheet cut behind a line feed, and fed in two runs of which the second finds what the first
 -- leaves
 pub sheetOf-cut : (d : Display) (t a b : List ℕ)
-    → sheetOf d t (a ++ 10 ∷ b)
-    ≡ after (sheetOf d t (a ++ 10 ∷ []) .printed) (sheetOf (sheetOf d t (a ++ 10 ∷ []) .state) (sheetOf d t (a ++ 10 ∷ []) .tables) b)
+    → sheetOf d t (a ++ lineFeed ∷ b)
+    ≡ after (sheetOf d t (a ++ lineFeed ∷ []) .printed)
+    (sheetOf (sheetOf d t (a ++ lineFeed ∷ []) .state) (sheetOf d t (a ++ lineFeed ∷ []) .tables) b)
 unfolding sheetOf
-sheetOf-cut d t a b = ap (linesOf d t) (linesFrom-cut [] a b) ∙ linesOf-append d t (linesFrom [] (a ++ 10 ∷ [])) (linesFrom [] b)
+sheetOf-cut d t a b =
+    ap (linesOf d t) (linesFrom-cut [] a b) ∙ linesOf-append d t (linesFrom [] (a ++ lineFeed ∷ [])) (linesFrom [] b)

@@ -6,15 +6,16 @@ use mathlib.Core.Bool.{Bool}
 use mathlib.Core.List.{List}
 use lib.ListN.{length, getD}
 use lib.Dec.{eqb}
-use Rattle.lines.specs.declared.form.Parts.{Parts}
 
--- numbers of two, four and eight digits, the most significant first
+-- a number of two digits
 abbrev pub byteAt : List ℕ → ℕ → ℕ
 byteAt b at = getD b at 0
 
+-- a number of four digits, the most significant first
 unfoldable pub countAt : List ℕ → ℕ → ℕ
 countAt b at = 256 * byteAt b at + byteAt b (at + 1)
 
+-- a number of eight digits
 unfoldable pub wordAt : List ℕ → ℕ → ℕ
 wordAt b at = 65536 * countAt b at + countAt b (at + 2)
 
@@ -44,7 +45,3 @@ endPlace b = picturePlace b + 2 + countAt b (picturePlace b)
 -- do
 unfoldable pub isFormed : List ℕ → Bool
 isFormed b = eqb (endPlace b) (length b)
-
--- what the code finds of it
-abbrev pub partsOf : List ℕ → Parts
-partsOf b = record { good = isFormed b; writes = writesPlace b; picture = picturePlace b }

@@ -1,19 +1,17 @@
 -- What a line leaves and prints: 01 "Sheet program and host entry". Assumes nothing.
-use Prim.Native.Nat.{ℕ, _+_, _*_, _/_, _%_, _≤_}
-use mathlib.Core.Path.{_≡_}
-use mathlib.Core.Bool.{Bool, true, false}
+use Prim.Native.Nat.{ℕ, _+_, _*_, _/_, _%_}
 use mathlib.Core.List.{List, [], _∷_, _++_}
-use lib.ListN.{length, take, drop, replicate}
+use lib.ListN.{length, drop, replicate}
 use lib.Dec.{eqb, leb}
-use Rattle.lists.specs.Choice.{pick, pickList, both, orElse}
+use Rattle.lists.specs.Choice.{pick, choose, both, orElse}
 use Rattle.answers.specs.Answers.{done}
 use Rattle.words.specs.Fields.{widthOf, heightOf}
 use Rattle.display.specs.declared.Display.{Display}
 use Rattle.display.specs.declared.Told.{Told}
-use Rattle.display.specs.State.{told, pickTold, startOf}
+use Rattle.display.specs.State.{told, startOf}
 use Rattle.display.specs.Paint.{frameTold, frameBytes}
-use Rattle.lines.specs.declared.line.Replied.{Replied}
 use Rattle.lines.specs.declared.line.Printed.{Printed}
+use Rattle.lines.specs.Sizes.{mostDigits, mostLent, lineFeed, badForm}
 use Rattle.lines.specs.Hex.{isHex, bytesIn, digitsOf}
 use Rattle.lines.specs.Form.{picturePlace, isFormed}
 use Rattle.lines.specs.Steps.{Midway, midway, runOf, stepsOf}
@@ -23,28 +21,32 @@ use Rattle.lines.specs.Steps.{Midway, midway, runOf, stepsOf}
 unfoldable pub startedOf : Told → Told
 startedOf r = told (startOf (r .state) .state) (orElse (r .answer) (startOf (r .state) .answer))
 
--- "At most 4,096 output bytes are lent; larger screens answer 13 (0D).": all zero, as many as the
--- screen has where that is not more
+-- "all zero": n bytes
 unfoldable pub zeros : ℕ → List ℕ
 zeros n = replicate n 0
 
+-- "At most 4,096 output bytes are lent; larger screens answer 13 (0D).": how many to a screen of this
+-- width and height, as many as it has where that is not more
 abbrev pub lentFor : ℕ → ℕ → ℕ
-lentFor w h = pick (leb (4 * (w * h)) 4096) (4 * (w * h)) 4096
+lentFor w h = pick (leb (4 * (w * h)) mostLent) (4 * (w * h)) mostLent
 
+-- they are zeros
 unfoldable pub lentOf : Display → List ℕ
 lentOf d = zeros (lentFor (widthOf (d .active)) (heightOf (d .active)))
 
 -- ".. whole frame, in that order": left out after a refusal, of the start too
 unfoldable pub framedOf : Told → List ℕ → List ℕ → Told
-framedOf r t p = pickTold (eqb (r .answer) done) (frameTold (r .state) t p (lentOf (r .state))) r
+framedOf r t p = choose (eqb (r .answer) done) (frameTold (r .state) t p (lentOf (r .state))) r
 
+-- the frame's bytes
 unfoldable pub paintedOf : Told → List ℕ → List ℕ → List ℕ
 paintedOf r t p = frameBytes (r .state) t p (lentOf (r .state))
 
--- a number of four digits, and one of eight, as bytes
+-- a number of four digits as bytes
 abbrev pub twoBytes : ℕ → List ℕ
 twoBytes n = n / 256 % 256 ∷ n % 256 ∷ []
 
+-- a number of eight digits as bytes
 abbrev pub fourBytes : ℕ → List ℕ
 fourBytes n = n / 16777216 % 256 ∷ n / 65536 % 256 ∷ n / 256 % 256 ∷ n % 256 ∷ []
 
@@ -54,7 +56,7 @@ headOf d = fourBytes (d .errors) ++ twoBytes (widthOf (d .active)) ++ twoBytes (
 
 -- "It prints one line: answer (2); after 00 also .."
 unfoldable pub replyOf : Told → List ℕ → List ℕ
-replyOf r bytes = r .answer ∷ pickList (eqb (r .answer) done) (headOf (r .state) ++ bytes) []
+replyOf r bytes = r .answer ∷ choose (eqb (r .answer) done) (headOf (r .state) ++ bytes) []
 
 -- what a line leaves, state and tables, and the bytes of its reply
 pub record Outcome : Type 0 where
@@ -62,20 +64,13 @@ pub record Outcome : Type 0 where
   pub tables : List ℕ
   pub reply : List ℕ
 
-abbrev pub pickOutcome : Bool → Outcome → Outcome → Outcome
-pickOutcome true a b = a
-pickOutcome false a b = b
-
 -- "A badly formed, empty or too long line prints FE and does nothing."
-abbrev pub badForm : ℕ
-badForm = 254
-
 abbrev pub badOf : Display → List ℕ → Outcome
 badOf d t = record { state = d; tables = t; reply = badForm ∷ [] }
 
 -- after the steps: start, frame, reply
-unfoldable pub endOf : Midway → List ℕ → Outcome
-endOf m p =
+unfoldable pub closedOf : Midway → List ℕ → Outcome
+closedOf m p =
     record {
       state = framedOf (startedOf (m .told)) (m .tables) p .state;
       tables = m .tables;
@@ -84,36 +79,25 @@ endOf m p =
 
 -- a well formed line's bytes, with the picture bytes behind their count
 unfoldable pub workOf : Display → List ℕ → List ℕ → Outcome
-workOf d t b = endOf (runOf (midway (told d done) t) (stepsOf b)) (drop (picturePlace b + 2) b)
+workOf d t b = closedOf (runOf (midway (told d done) t) (stepsOf b)) (drop (picturePlace b + 2) b)
 
 -- a line's bytes
 unfoldable pub doneOf : Display → List ℕ → List ℕ → Outcome
-doneOf d t b = pickOutcome (isFormed b) (workOf d t b) (badOf d t)
+doneOf d t b = choose (isFormed b) (workOf d t b) (badOf d t)
 
 -- a line's text, "at most 8,192 digits"
 unfoldable pub outcomeOf : Display → List ℕ → List ℕ → Outcome
-outcomeOf d t text = pickOutcome (both (leb (length text) 8192) (isHex text)) (doneOf d t (bytesIn text)) (badOf d t)
-
--- a call inside that leaves an outcome: the reply stands at the front of a buffer
-pub record Leaves (o : Outcome) (r : Replied) (t u : List ℕ) : Type 0 where
-  pub state : r .state ≡ o .state
-  pub tables : t ≡ o .tables
-  pub reply : take (r .length) u ≡ o .reply
-  pub fits : r .length ≤ 4105
+outcomeOf d t text = choose (both (leb (length text) mostDigits) (isHex text)) (doneOf d t (bytesIn text)) (badOf d t)
 
 -- the text of a reply: its digits, and the line feed that ends it
-unfoldable pub textOf : List ℕ → List ℕ
-textOf reply = digitsOf reply ++ 10 ∷ []
+unfoldable pub replyText : List ℕ → List ℕ
+replyText reply = digitsOf reply ++ lineFeed ∷ []
 
 -- what a run leaves, state and tables, and the text that it prints
 pub record Ran : Type 0 where
   pub state : Display
   pub tables : List ℕ
   pub printed : List ℕ
-
-abbrev pub pickRan : Bool → Ran → Ran → Ran
-pickRan true a b = a
-pickRan false a b = b
 
 -- a run of no line
 abbrev pub idle : Display → List ℕ → Ran
@@ -125,8 +109,9 @@ lineOf d t text =
     record {
       state = outcomeOf d t text .state;
       tables = outcomeOf d t text .tables;
-      printed = textOf (outcomeOf d t text .reply);
+      printed = replyText (outcomeOf d t text .reply);
     }
 
+-- what it answers
 abbrev pub printedOf : Ran → Printed
-printedOf r = record { state = r .state; length = length (r .printed) }
+printedOf r = record { state = r .state; count = length (r .printed) }

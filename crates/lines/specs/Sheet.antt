@@ -1,24 +1,21 @@
 -- A sheet cut into lines, and what they print: 01 "Sheet program and host entry", "reads lines of
 -- hexadecimal, one frame a line". Assumes nothing.
 use Prim.Native.Nat.{ℕ}
-use mathlib.Core.Bool.{Bool, true, false}
 use mathlib.Core.List.{List, [], _∷_, _++_}
 use lib.ListN.{length}
 use lib.Dec.{eqb}
+use Rattle.lists.specs.Choice.{choose}
 use Rattle.tables.specs.Geometry.{tablesLen}
 use Rattle.display.specs.declared.Display.{Display}
 use Rattle.display.specs.State.{fresh}
+use Rattle.lines.specs.Sizes.{lineFeed}
 use Rattle.lines.specs.Line.{zeros, Ran, idle, lineOf}
-
-abbrev pub pickLines : Bool → List (List ℕ) → List (List ℕ) → List (List ℕ)
-pickLines true a b = a
-pickLines false a b = b
 
 -- "Lines end with a line feed; a last line without one counts if it has any byte.": the lines of a
 -- sheet whose first line has begun with x
 unfoldable pub linesFrom : List ℕ → List ℕ → List (List ℕ)
-linesFrom x [] = pickLines (eqb (length x) 0) [] (x ∷ [])
-linesFrom x (y ∷ rest) = pickLines (eqb y 10) (x ∷ linesFrom [] rest) (linesFrom (x ++ y ∷ []) rest)
+linesFrom x [] = choose (eqb (length x) 0) [] (x ∷ [])
+linesFrom x (y ∷ rest) = choose (eqb y lineFeed) (x ∷ linesFrom [] rest) (linesFrom (x ++ y ∷ []) rest)
 
 -- one run, and then another: it prints the more
 abbrev pub after : List ℕ → Ran → Ran
@@ -33,6 +30,10 @@ linesOf d t (x ∷ rest) = after (lineOf d t x .printed) (linesOf (lineOf d t x 
 unfoldable pub sheetOf : Display → List ℕ → List ℕ → Ran
 sheetOf d t bytes = linesOf d t (linesFrom [] bytes)
 
--- "State and tables, all zero at first": what the program prints
+-- "State and tables, all zero at first": the tables
+abbrev pub firstTables : List ℕ
+firstTables = zeros tablesLen
+
+-- what the program prints
 unfoldable pub programOf : List ℕ → List ℕ
-programOf bytes = sheetOf fresh (zeros tablesLen) bytes .printed
+programOf bytes = sheetOf fresh firstTables bytes .printed

@@ -2,7 +2,8 @@
 // a line is good where its parts end exactly at its own end.
 ghost use mathlib.Core.Path.{_≡_};
 ghost use Prim.Native.Nat.{_<_};
-ghost use Rattle.lines.specs.Form.{byteAt, countAt, wordAt, writesPlace, partsOf};
+ghost use Rattle.lines.specs.Form.{byteAt, countAt, wordAt, writesPlace};
+ghost use Rattle.lines.specs.Engine.Parts.{partsOf};
 
 pub struct Parts {
     pub good: bool,

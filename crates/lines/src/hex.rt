@@ -35,7 +35,8 @@ fn value(c: u8) -> u8
 // two for each byte.
 pub fn read_bytes(text: &[u8], bytes: &mut [u8]) -> bool
     requires { ⌜ length (now text) ≤ 2 * length (now bytes) ⌝ }
-    ensures { λ r. ⌜ (r ≡ isHex (now (text .entry))) × (r ≡ true → take (length (now (text .entry)) / 2) (now (bytes .exit)) ≡ bytesIn (now (text .entry))) ⌝ }
+    ensures { λ r. ⌜ (r ≡ isHex (now (text .entry)))
+        × (r ≡ true → take (length (now (text .entry)) / 2) (now (bytes .exit)) ≡ bytesIn (now (text .entry))) ⌝ }
 {
     let mut i = 0;
     while 2 * i + 1 < text.len() {

@@ -2,6 +2,13 @@
 // where it stands in them, so that one place prints.
 use crate::form;
 use crate::hex;
+use crate::sizes::BAD_FORM;
+use crate::sizes::HEAD_LEN;
+use crate::sizes::LINE_FEED;
+use crate::sizes::MOST_BYTES;
+use crate::sizes::MOST_DIGITS;
+use crate::sizes::MOST_LENT;
+use crate::sizes::MOST_REPLY;
 use crate::steps;
 use answers::DONE;
 use display::Display;
@@ -13,45 +20,36 @@ ghost use lib.ListN.{length, take};
 ghost use Rattle.lists.specs.Over.{over};
 ghost use Rattle.answers.specs.Answers.{done};
 ghost use Rattle.words.specs.Fields.{widthOf, heightOf};
-ghost use Rattle.lines.specs.Line.{startedOf, zeros, lentFor, headOf, framedOf, paintedOf, replyOf, Leaves, doneOf, outcomeOf, textOf, lineOf, printedOf};
-
-// A line with one more digit is refused.
-const MOST_DIGITS: usize = 8192;
-
-// Printed FE.
-const BAD_FORM: u8 = 254;
-
-// The most bytes that a frame is lent.
-const MOST_LENT: usize = 4096;
-
-// What stands before the frame in a reply: answer, error word, width, height.
-const HEAD_LEN: usize = 9;
+ghost use Rattle.lines.specs.Sizes.{mostBytes, mostLent, mostReply, mostPrinted};
+ghost use Rattle.lines.specs.Line.{startedOf, zeros, lentFor, headOf, framedOf, paintedOf, replyOf, doneOf};
+ghost use Rattle.lines.specs.Line.{outcomeOf, replyText, lineOf, printedOf};
+ghost use Rattle.lines.specs.Engine.Replies.{Leaves};
 
 // The state afterwards, and how many bytes the reply has.
 pub struct Replied {
     pub state: Display,
-    pub length: usize,
+    pub count: usize,
 }
 
 // The state afterwards, and how many bytes were printed.
 pub struct Printed {
     pub state: Display,
-    pub length: usize,
+    pub count: usize,
 }
 
 // Room for a line's bytes. Arrays are made by functions that name their zeros, so that no proof
 // writes them out.
-fn no_bytes() -> [u8; 4096]
-    ensures { λ r. ⌜ 4096 ≡ length r ⌝ }
+fn no_bytes() -> [u8; MOST_BYTES]
+    ensures { λ r. ⌜ mostBytes ≡ length r ⌝ }
 {
-    [0; 4096]
+    [0; MOST_BYTES]
 }
 
 // Room for a reply: its head, and the most bytes that are lent.
-fn no_reply() -> [u8; 4105]
-    ensures { λ r. ⌜ (4105 ≡ length r) × (r ≡ zeros 4105) ⌝ }
+fn no_reply() -> [u8; MOST_REPLY]
+    ensures { λ r. ⌜ (mostReply ≡ length r) × (r ≡ zeros mostReply) ⌝ }
 {
-    [0; 4105]
+    [0; MOST_REPLY]
 }
 
 // The start, whatever was refused before it; the first refusal stays.
@@ -73,7 +71,7 @@ fn start(t: Told) -> Told
 
 // How many bytes the frame is lent.
 fn lent_len(d: Display) -> usize
-    ensures { λ r. ⌜ (r ≡ lentFor (widthOf (d .active)) (heightOf (d .active))) × (r ≤ 4096) ⌝ }
+    ensures { λ r. ⌜ (r ≡ lentFor (widthOf (d .active)) (heightOf (d .active))) × (r ≤ mostLent) ⌝ }
 {
     let w = d.output_width() as usize;
     let h = d.output_height() as usize;
@@ -86,16 +84,16 @@ fn lent_len(d: Display) -> usize
 
 // A reply of one byte.
 fn refuse(state: Display, answer: u8, reply: &mut [u8]) -> Replied
-    requires { ⌜ length (now reply) ≡ 4105 ⌝ }
-    ensures { λ r. ⌜ (r .state ≡ state) × (r .length ≡ 1) × (take 1 (now (reply .exit)) ≡ answer ∷ []) ⌝ }
+    requires { ⌜ length (now reply) ≡ mostReply ⌝ }
+    ensures { λ r. ⌜ (r .state ≡ state) × (r .count ≡ 1) × (take 1 (now (reply .exit)) ≡ answer ∷ []) ⌝ }
 {
     reply[0] = answer;
-    Replied { state, length: 1 }
+    Replied { state, count: 1 }
 }
 
 // The head of a reply that nothing has refused.
 fn head(state: Display, reply: &mut [u8])
-    requires { ⌜ length (now reply) ≡ 4105 ⌝ }
+    requires { ⌜ length (now reply) ≡ mostReply ⌝ }
     ensures { λ _. ⌜ now (reply .exit) ≡ over (done ∷ headOf state) (now (reply .entry)) ⌝ }
 {
     let e = state.error_word();
@@ -117,8 +115,10 @@ fn head(state: Display, reply: &mut [u8])
 
 // The frame, where nothing was refused, and the reply.
 fn frame(t: Told, tables: &[u8], pictures: &[u8], reply: &mut [u8]) -> Replied
-    requires { ⌜ now reply ≡ zeros 4105 ⌝ }
-    ensures { λ r. ⌜ (r .state ≡ framedOf t (now (tables .entry)) (now (pictures .entry)) .state) × (take (r .length) (now (reply .exit)) ≡ replyOf (framedOf t (now (tables .entry)) (now (pictures .entry))) (paintedOf t (now (tables .entry)) (now (pictures .entry)))) × (r .length ≤ 4105) ⌝ }
+    requires { ⌜ now reply ≡ zeros mostReply ⌝ }
+    ensures { λ r. ⌜ (r .state ≡ framedOf t (now (tables .entry)) (now (pictures .entry)) .state)
+        × (take (r .count) (now (reply .exit)) ≡ replyOf (framedOf t (now (tables .entry)) (now (pictures .entry)))
+        (paintedOf t (now (tables .entry)) (now (pictures .entry)))) × (r .count ≤ mostReply) ⌝ }
 {
     let refused = t.answer;
     let state = t.state;
@@ -135,14 +135,15 @@ fn frame(t: Told, tables: &[u8], pictures: &[u8], reply: &mut [u8]) -> Replied
     head(after, reply);
     Replied {
         state: after,
-        length: HEAD_LEN + n,
+        count: HEAD_LEN + n,
     }
 }
 
 // A line's bytes. The form is looked at before anything is done.
 fn work(state: Display, tables: &mut [u8], b: &[u8], reply: &mut [u8]) -> Replied
-    requires { ⌜ now reply ≡ zeros 4105 ⌝ }
-    ensures { λ r. ⌜ Leaves (doneOf state (now (tables .entry)) (now (b .entry))) r (now (tables .exit)) (now (reply .exit)) ⌝ }
+    requires { ⌜ now reply ≡ zeros mostReply ⌝ }
+    ensures { λ r. ⌜ Leaves (doneOf state (now (tables .entry)) (now (b .entry))) r (now (tables .exit))
+        (now (reply .exit)) ⌝ }
 {
     let parts = form::parts_of(b);
     let good = parts.good;
@@ -158,8 +159,9 @@ fn work(state: Display, tables: &mut [u8], b: &[u8], reply: &mut [u8]) -> Replie
 
 // A line's text.
 fn answer(state: Display, tables: &mut [u8], text: &[u8], reply: &mut [u8]) -> Replied
-    requires { ⌜ now reply ≡ zeros 4105 ⌝ }
-    ensures { λ r. ⌜ Leaves (outcomeOf state (now (tables .entry)) (now (text .entry))) r (now (tables .exit)) (now (reply .exit)) ⌝ }
+    requires { ⌜ now reply ≡ zeros mostReply ⌝ }
+    ensures { λ r. ⌜ Leaves (outcomeOf state (now (tables .entry)) (now (text .entry))) r (now (tables .exit))
+        (now (reply .exit)) ⌝ }
 {
     if MOST_DIGITS < text.len() {
         return refuse(state, BAD_FORM, reply);
@@ -175,30 +177,32 @@ fn answer(state: Display, tables: &mut [u8], text: &[u8], reply: &mut [u8]) -> R
 
 // A reply's digits and its line feed, to the front of `out`; how many bytes they are.
 fn print(reply: &[u8], out: &mut [u8]) -> usize
-    requires { ⌜ (length (now reply) ≤ 4105) × (length (now out) ≡ 8211) ⌝ }
-    ensures { λ r. ⌜ (r ≡ length (textOf (now (reply .entry)))) × (now (out .exit) ≡ over (textOf (now (reply .entry))) (now (out .entry))) ⌝ }
+    requires { ⌜ (length (now reply) ≤ mostReply) × (mostPrinted ≤ length (now out)) ⌝ }
+    ensures { λ r. ⌜ (r ≡ length (replyText (now (reply .entry))))
+        × (now (out .exit) ≡ over (replyText (now (reply .entry))) (now (out .entry))) ⌝ }
 {
     let n = 2 * reply.len();
     hex::print_bytes(reply, out);
-    out[n] = 10;
+    out[n] = LINE_FEED;
     n + 1
 }
 
 // `crate::run_line` on slices.
 pub fn run_in(state: Display, tables: &mut [u8], text: &[u8], out: &mut [u8]) -> Printed
-    requires { ⌜ length (now out) ≡ 8211 ⌝ }
+    requires { ⌜ mostPrinted ≤ length (now out) ⌝ }
     ensures { λ r. ⌜ r ≡ printedOf (lineOf state (now (tables .entry)) (now (text .entry))) ⌝ }
     ensures { λ _. ⌜ now (tables .exit) ≡ lineOf state (now (tables .entry)) (now (text .entry)) .tables ⌝ }
-    ensures { λ _. ⌜ now (out .exit) ≡ over (lineOf state (now (tables .entry)) (now (text .entry)) .printed) (now (out .entry)) ⌝ }
-    ensures { λ r. ⌜ r .length ≤ 8211 ⌝ }
+    ensures { λ _. ⌜ now (out .exit)
+        ≡ over (lineOf state (now (tables .entry)) (now (text .entry)) .printed) (now (out .entry)) ⌝ }
+    ensures { λ r. ⌜ r .count ≤ mostPrinted ⌝ }
 {
     let mut reply = no_reply();
     let r = answer(state, tables, text, &mut reply);
-    let n = r.length;
+    let n = r.count;
     let after = r.state;
-    let length = print(&reply[..n], out);
+    let count = print(&reply[..n], out);
     Printed {
         state: after,
-        length,
+        count,
     }
 }

@@ -10,10 +10,10 @@ ghost use mathlib.Core.List.{List};
 ghost use Rattle.answers.specs.Answers.{done};
 ghost use Rattle.display.specs.State.{told};
 ghost use Rattle.lines.specs.Form.{loadsOf, writesPlace};
-ghost use Rattle.lines.specs.Steps.{Step, midway, stepOf, runOf, putsAt, loadAt, loadsAt, writesAt, stepsOf};
+ghost use Rattle.lines.specs.Steps.{Act, midway, stepOf, runOf, putsAt, loadAt, loadsAt, writesAt, stepsOf};
 
 fn put(t: Told, tables: &mut [u8], byte: u8) -> Told
-    ensures { λ r. ⌜ midway r (now (tables .exit)) ≡ stepOf (midway t (now (tables .entry))) (Step.put byte) ⌝ }
+    ensures { λ r. ⌜ midway r (now (tables .exit)) ≡ stepOf (midway t (now (tables .entry))) (Act.put byte) ⌝ }
 {
     let answer = t.answer;
     if answer != DONE {
@@ -25,7 +25,7 @@ fn put(t: Told, tables: &mut [u8], byte: u8) -> Told
 
 // A step that leaves the tables alone says so of all tables.
 fn select(t: Told, selection: u32) -> Told
-    ensures { λ r. ⌜ ((l : List ℕ) → midway r l ≡ stepOf (midway t l) (Step.select selection)) ⌝ }
+    ensures { λ r. ⌜ ((l : List ℕ) → midway r l ≡ stepOf (midway t l) (Act.select selection)) ⌝ }
 {
     let answer = t.answer;
     if answer != DONE {
@@ -36,7 +36,7 @@ fn select(t: Told, selection: u32) -> Told
 }
 
 fn write(t: Told, register: u32, value: u32) -> Told
-    ensures { λ r. ⌜ ((l : List ℕ) → midway r l ≡ stepOf (midway t l) (Step.write register value)) ⌝ }
+    ensures { λ r. ⌜ ((l : List ℕ) → midway r l ≡ stepOf (midway t l) (Act.write register value)) ⌝ }
 {
     let answer = t.answer;
     if answer != DONE {
@@ -49,7 +49,8 @@ fn write(t: Told, register: u32, value: u32) -> Told
 // The n bytes from a place on, each put.
 fn puts(first: Told, tables: &mut [u8], b: &[u8], from: usize, n: usize) -> Told
     requires { ⌜ from + n < 1000000000000 ⌝ }
-    ensures { λ r. ⌜ midway r (now (tables .exit)) ≡ runOf (midway first (now (tables .entry))) (putsAt n (now (b .entry)) from) ⌝ }
+    ensures { λ r. ⌜ midway r (now (tables .exit))
+        ≡ runOf (midway first (now (tables .entry))) (putsAt n (now (b .entry)) from) ⌝ }
 {
     let mut t = first;
     let mut at = from;
@@ -65,7 +66,8 @@ fn puts(first: Told, tables: &mut [u8], b: &[u8], from: usize, n: usize) -> Told
 // One load: its selection, and its bytes put.
 fn load(first: Told, tables: &mut [u8], b: &[u8], at: usize) -> Told
     requires { ⌜ at < 100000000000 ⌝ }
-    ensures { λ r. ⌜ midway r (now (tables .exit)) ≡ runOf (midway first (now (tables .entry))) (loadAt (now (b .entry)) at) ⌝ }
+    ensures { λ r. ⌜ midway r (now (tables .exit))
+        ≡ runOf (midway first (now (tables .entry))) (loadAt (now (b .entry)) at) ⌝ }
 {
     let t = select(first, form::byte_at(b, at) as u32);
     let n = form::count_at(b, at + 1);
@@ -73,7 +75,8 @@ fn load(first: Told, tables: &mut [u8], b: &[u8], at: usize) -> Told
 }
 
 fn loads(first: Told, tables: &mut [u8], b: &[u8]) -> Told
-    ensures { λ r. ⌜ midway r (now (tables .exit)) ≡ runOf (midway first (now (tables .entry))) (loadsAt (loadsOf (now (b .entry))) (now (b .entry)) 1) ⌝ }
+    ensures { λ r. ⌜ midway r (now (tables .exit))
+        ≡ runOf (midway first (now (tables .entry))) (loadsAt (loadsOf (now (b .entry))) (now (b .entry)) 1) ⌝ }
 {
     let mut t = first;
     let mut at: usize = 1;
@@ -108,7 +111,8 @@ fn writes(first: Told, b: &[u8], from: usize, n: usize) -> Told
 // All steps of a line whose number of writes stands at `place`.
 pub fn run(state: Display, tables: &mut [u8], b: &[u8], place: usize) -> Told
     requires { ⌜ (place ≡ writesPlace (now b)) × (place < 33554432) ⌝ }
-    ensures { λ r. ⌜ midway r (now (tables .exit)) ≡ runOf (midway (told state done) (now (tables .entry))) (stepsOf (now (b .entry))) ⌝ }
+    ensures { λ r. ⌜ midway r (now (tables .exit))
+        ≡ runOf (midway (told state done) (now (tables .entry))) (stepsOf (now (b .entry))) ⌝ }
 {
     let first = Told {
         state,

@@ -73,8 +73,10 @@ or-swap =
     (λ a b. ap (λ (z : ℕ). bitOr z b) (or-zero-l a) ∙ or-comm a b ∙ sym (ap (λ (z : ℕ). bitOr z a) (or-zero-l b)))
     (λ e ih a b. or-step (bitOr e a) b
     ∙ ap₂ (λ (x y : ℕ). x * 2 + y)
-    (ap (λ (z : ℕ). bitOr z (b / 2)) (or-half e a) ∙ ih (a / 2) (b / 2) ∙ sym (ap (λ (z : ℕ). bitOr z (a / 2)) (or-half e b)))
-    (ap (λ (z : ℕ). max z (b % 2)) (or-odd e a) ∙ swap (e % 2) (a % 2) (b % 2) ∙ sym (ap (λ (z : ℕ). max z (a % 2)) (or-odd e b)))
+    (ap (λ (z : ℕ). bitOr z (b / 2)) (or-half e a) ∙ ih (a / 2) (b / 2)
+    ∙ sym (ap (λ (z : ℕ). bitOr z (a / 2)) (or-half e b)))
+    (ap (λ (z : ℕ). max z (b % 2)) (or-odd e a) ∙ swap (e % 2) (a % 2) (b % 2)
+    ∙ sym (ap (λ (z : ℕ). max z (a % 2)) (or-odd e b)))
     ∙ sym (or-step (bitOr e b) a))
   where
     swap : (x y z : ℕ) → max (max x y) z ≡ max (max x z) y

@@ -2,12 +2,11 @@
 use mathlib.Core.Path.{_≡_, refl, sym, _∙_}
 use mathlib.Core.Bool.{Bool, true, false, false≢true}
 use mathlib.Core.Logic.{_⊎_, inl, inr, ⊎-elim}
-use mathlib.Core.List.{List}
 use Prim.Native.Nat.{ℕ, zero, suc, _%_, _≤_, _<_, zero-le, suc-le-suc}
 use native.Mathlib.Decide.{ℕ-discrete}
 use native.Mathlib.Omega.{arith}
 use borrow.Author.Tests.{ne-eqb}
-use Rattle.lists.specs.Choice.{pick, pickList, both, either, orElse}
+use Rattle.lists.specs.Choice.{pick, choose, both, either, orElse}
 
 -- two that equal a third: by this an equation admits one outcome
 pub meet : {A : Type 0} {x y z : A} → x ≡ z → y ≡ z → x ≡ y
@@ -31,14 +30,20 @@ pub pick-cong : (t : Bool) {x x′ y y′ : ℕ} → (t ≡ true → x ≡ x′)
 pick-cong true f g = f refl
 pick-cong false f g = g refl
 
-pub pickList-cong : (t : Bool) {x x′ y y′ : List ℕ} → (t ≡ true → x ≡ x′) → (t ≡ false → y ≡ y′) → pickList t x y ≡ pickList t x′ y′
-pickList-cong true f g = f refl
-pickList-cong false f g = g refl
+pub choose-cong : {A : Type 0} (t : Bool) {x x′ y y′ : A} → (t ≡ true → x ≡ x′) → (t ≡ false → y ≡ y′)
+    → choose t x y ≡ choose t x′ y′
+choose-cong true f g = f refl
+choose-cong false f g = g refl
 
 -- what holds of both is so of the chosen
 pub pick-keeps : (P : ℕ → Type 0) (t : Bool) (x y : ℕ) → (t ≡ true → P x) → (t ≡ false → P y) → P (pick t x y)
 pick-keeps P true x y f g = f refl
 pick-keeps P false x y f g = g refl
+
+pub choose-keeps : {A : Type 0} (P : A → Type 0) (t : Bool) (x y : A) → (t ≡ true → P x) → (t ≡ false → P y)
+    → P (choose t x y)
+choose-keeps P true x y f g = f refl
+choose-keeps P false x y f g = g refl
 
 -- a choice made twice by one test: of the second only what the first left is seen
 pub pick-twice : (t : Bool) (F : ℕ → ℕ) (x y z : ℕ) → F x ≡ y → pick t (F (pick t x z)) (pick t x z) ≡ pick t y z
@@ -49,9 +54,10 @@ pub pick-other : (t : Bool) (F : ℕ → ℕ) (x y z : ℕ) → F x ≡ y → pi
 pick-other true F x y z e = refl
 pick-other false F x y z e = e
 
-pub pickList-twice : (t : Bool) (F : List ℕ → List ℕ) (x y z : List ℕ) → F x ≡ y → pickList t (F (pickList t x z)) (pickList t x z) ≡ pickList t y z
-pickList-twice true F x y z e = e
-pickList-twice false F x y z e = refl
+pub choose-twice : {A : Type 0} (t : Bool) (F : A → A) (x y z : A) → F x ≡ y
+    → choose t (F (choose t x z)) (choose t x z) ≡ choose t y z
+choose-twice true F x y z e = e
+choose-twice false F x y z e = refl
 
 -- a test that refuses with a number above 0, and a test that lets through
 pub refuses-not : (t : Bool) (r s : ℕ) → pick t (suc r) s ≡ 0 → (t ≡ false) × (s ≡ 0)

@@ -21,5 +21,6 @@ module _ (l : List ℕ) (o n : ℕ) (fits : o + n ≤ length l) where
   cut-high i h =
       let q : i ≡ length (take o l) + (i - o) = omega (arith, length-front) in
       let r : o + n + (i - o) ≡ i + n = omega arith in
-      ap (λ (z : ℕ). getD (cut o n l) z 0) q ∙ getD-append-add (take o l) (drop (o + n) l) (i - o) 0 ∙ getD-drop (o + n) l (i - o) 0
+      ap (λ (z : ℕ). getD (cut o n l) z 0) q ∙ getD-append-add (take o l) (drop (o + n) l) (i - o) 0
+      ∙ getD-drop (o + n) l (i - o) 0
       ∙ ap (λ (z : ℕ). getD l z 0) r

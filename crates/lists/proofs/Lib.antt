@@ -12,3 +12,4 @@ pub mod Run
 pub mod Steps
 pub mod Over
 pub mod Cut
+pub mod Call

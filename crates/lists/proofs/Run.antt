@@ -15,7 +15,8 @@ unfolding run
 run-none a f p = refl
 
 -- what every step keeps
-pub run-keeps : (P : ℕ → Type 0) (a k : ℕ) (f : ℕ → ℕ → ℕ) (p : ℕ) → ((d q : ℕ) → Within a k d → P q → P (f d q)) → P p → P (run a k f p)
+pub run-keeps : (P : ℕ → Type 0) (a k : ℕ) (f : ℕ → ℕ → ℕ) (p : ℕ) → ((d q : ℕ) → Within a k d → P q → P (f d q)) → P p
+    → P (run a k f p)
 unfolding run
 run-keeps P a zero f p h b = b
 run-keeps P a (suc k) f p h b = h (a + k) _ (omega arith) (run-keeps P a k f p (λ d q w. h d q (omega arith)) b)
@@ -25,7 +26,8 @@ pub run-id : (a k : ℕ) (f : ℕ → ℕ → ℕ) (p : ℕ) → ((d q : ℕ) �
 run-id a k f p h = run-keeps (λ (z : ℕ). z ≡ p) a k f p (λ d q w e. h d q w ∙ e) refl
 
 -- the same steps
-pub run-cong : (a k : ℕ) (f g : ℕ → ℕ → ℕ) (p : ℕ) → ((d q : ℕ) → Within a k d → f d q ≡ g d q) → run a k f p ≡ run a k g p
+pub run-cong : (a k : ℕ) (f g : ℕ → ℕ → ℕ) (p : ℕ) → ((d q : ℕ) → Within a k d → f d q ≡ g d q)
+    → run a k f p ≡ run a k g p
 unfolding run
 run-cong a zero f g p h = refl
 run-cong a (suc k) f g p h =
@@ -74,22 +76,26 @@ unfolding run
 run-rest a zero n f p w h = omega arith
 run-rest a (suc k) n f p w h = ⊎-elim
     (λ (e : n ≡ a + k). let q : n - a ≡ k = omega arith in rw (q, e))
-    (λ (ne : n ≡ a + k → ⊥). h (a + k) _ (omega arith) (omega arith) ∙ run-rest a k n f p (omega arith) (λ d q lo hi. h d q lo (omega arith)))
+    (λ (ne : n ≡ a + k → ⊥). h (a + k) _ (omega arith) (omega arith)
+    ∙ run-rest a k n f p (omega arith) (λ d q lo hi. h d q lo (omega arith)))
     (same-or n (a + k))
 
 -- only step n does anything
-pub run-only : (a k n : ℕ) (f : ℕ → ℕ → ℕ) (p : ℕ) → Within a k n → ((d q : ℕ) → Within a k d → (d ≡ n → ⊥) → f d q ≡ q) → run a k f p ≡ f n p
+pub run-only : (a k n : ℕ) (f : ℕ → ℕ → ℕ) (p : ℕ) → Within a k n → ((d q : ℕ) → Within a k d → (d ≡ n → ⊥) → f d q ≡ q)
+    → run a k f p ≡ f n p
 run-only a k n f p w h =
     run-rest a k n f p w (λ d q lo hi. h d q (omega arith) (omega arith))
     ∙ ap (f n) (run-id a (n - a) f p (λ d q v. h d q (omega arith) (omega arith)))
 
 -- what step n makes so and every step keeps
-pub run-after : (P : ℕ → Type 0) (a k n : ℕ) (f : ℕ → ℕ → ℕ) (p : ℕ) → Within a k n → ((q : ℕ) → P (f n q)) → ((d q : ℕ) → Within a k d → P q → P (f d q)) → P (run a k f p)
+pub run-after : (P : ℕ → Type 0) (a k n : ℕ) (f : ℕ → ℕ → ℕ) (p : ℕ) → Within a k n → ((q : ℕ) → P (f n q))
+    → ((d q : ℕ) → Within a k d → P q → P (f d q)) → P (run a k f p)
 unfolding run
 run-after P a zero n f p w c h = absurd (omega arith)
 run-after P a (suc k) n f p w c h = ⊎-elim
     (λ (e : n ≡ a + k). rw (← e) (c _))
-    (λ (ne : n ≡ a + k → ⊥). h (a + k) _ (omega arith) (run-after P a k n f p (omega arith) c (λ d q v. h d q (omega arith))))
+    (λ (ne : n ≡ a + k → ⊥). h (a + k) _ (omega arith)
+    (run-after P a k n f p (omega arith) c (λ d q v. h d q (omega arith))))
     (same-or n (a + k))
 
 -- steps i and j change places where either order does the same and nothing is done between them
@@ -104,7 +110,9 @@ run-swap a (suc k) i j f g p lo m hi o b s = ⊎-elim
     (ap (f j) (run-rest a k i f p (omega arith) (λ d q l r. b d q l (omega arith)))
     ∙ s (run a (i - a) f p)
     ∙ ap (λ (z : ℕ). g j (g i z)) (run-cong a (i - a) f g p (λ d q w. o d q (omega arith) (omega arith) (omega arith)))
-    ∙ sym (ap (g j) (run-rest a k i g p (omega arith) (λ d q l r. sym (o d q (omega arith) (omega arith) (omega arith)) ∙ b d q l (omega arith))))))
+    ∙ sym (ap (g j)
+    (run-rest a k i g p (omega arith) (λ d q l r. sym (o d q (omega arith) (omega arith) (omega arith))
+    ∙ b d q l (omega arith))))))
     (λ (ne : j ≡ a + k → ⊥). o (a + k) _ (omega arith) (omega arith) (omega arith)
     ∙ ap (g (a + k)) (run-swap a k i j f g p lo m (omega arith) (λ d q w. o d q (omega arith)) b s))
     (same-or j (a + k))

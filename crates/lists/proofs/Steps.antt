@@ -8,7 +8,7 @@ use native.Mathlib.Numerals.{add-one}
 use native.Mathlib.Omega.{arith}
 use lib.ListN.{length, getD, take}
 use lib.Seq.{take-suc}
-use Rattle.lists.specs.Choice.{pick, pickList}
+use Rattle.lists.specs.Choice.{pick, choose}
 use Rattle.lists.specs.Steps.{through, keep}
 
 pub through-none : (step : ℕ → ℕ → ℕ) (p : ℕ) → through step [] p ≡ p
@@ -19,7 +19,8 @@ pub through-one : (step : ℕ → ℕ → ℕ) (n p : ℕ) → through step (n �
 unfolding through
 through-one step n p = refl
 
-pub through-append : (step : ℕ → ℕ → ℕ) (l m : List ℕ) (p : ℕ) → through step (l ++ m) p ≡ through step m (through step l p)
+pub through-append : (step : ℕ → ℕ → ℕ) (l m : List ℕ) (p : ℕ)
+    → through step (l ++ m) p ≡ through step m (through step l p)
 unfolding through
 through-append step [] m p = refl
 through-append step (n ∷ l) m p = through-append step l m (step n p)
@@ -36,18 +37,22 @@ through-id step [] p h = refl
 through-id step (n ∷ l) p h = ap (through step l) (h n p) ∙ through-id step l p h
 
 -- one element more
-pub through-next : (step : ℕ → ℕ → ℕ) (l : List ℕ) (k p : ℕ) → k < length l → through step (take (k + 1) l) p ≡ step (getD l k 0) (through step (take k l) p)
+pub through-next : (step : ℕ → ℕ → ℕ) (l : List ℕ) (k p : ℕ) → k < length l
+    → through step (take (k + 1) l) p ≡ step (getD l k 0) (through step (take k l) p)
 through-next step l k p h =
-    rw (add-one, take-suc l k 0 h) (through-append step (take k l) (getD l k 0 ∷ []) p ∙ through-one step (getD l k 0) _)
+    rw (add-one, take-suc l k 0 h) (through-append step (take k l) (getD l k 0 ∷ []) p
+    ∙ through-one step (getD l k 0) _)
 
 -- along what is kept: a step where the test holds
-pub through-keep : (t : ℕ → Bool) (step : ℕ → ℕ → ℕ) (l : List ℕ) (p : ℕ) → through step (keep t l) p ≡ through (λ n q. pick (t n) (step n q) q) l p
+pub through-keep : (t : ℕ → Bool) (step : ℕ → ℕ → ℕ) (l : List ℕ) (p : ℕ)
+    → through step (keep t l) p ≡ through (λ n q. pick (t n) (step n q) q) l p
 unfolding through keep
 through-keep t step [] p = refl
 through-keep t step (n ∷ l) p = go (t n) (through-keep t step l)
   where
     go : (b : Bool) → ((q : ℕ) → through step (keep t l) q ≡ through (λ n q. pick (t n) (step n q) q) l q)
-        → through step (pickList b (n ∷ keep t l) (keep t l)) p ≡ through (λ n q. pick (t n) (step n q) q) l (pick b (step n p) p)
+        → through step (choose b (n ∷ keep t l) (keep t l)) p
+        ≡ through (λ n q. pick (t n) (step n q) q) l (pick b (step n p) p)
     go true h = h (step n p)
     go false h = h p
 
@@ -56,12 +61,13 @@ unfolding keep
 keep-append t [] m = refl
 keep-append t (n ∷ l) m = go (t n) (keep-append t l m)
   where
-    go : (b : Bool) → keep t (l ++ m) ≡ keep t l ++ keep t m → pickList b (n ∷ keep t (l ++ m)) (keep t (l ++ m)) ≡ pickList b (n ∷ keep t l) (keep t l) ++ keep t m
+    go : (b : Bool) → keep t (l ++ m) ≡ keep t l ++ keep t m
+        → choose b (n ∷ keep t (l ++ m)) (keep t (l ++ m)) ≡ choose b (n ∷ keep t l) (keep t l) ++ keep t m
     go true h = ap (λ (x : List ℕ). n ∷ x) h
     go false h = h
 
 pub keep-next : (t : ℕ → Bool) (l : List ℕ) (k : ℕ) → k < length l
-    → keep t (take (k + 1) l) ≡ keep t (take k l) ++ pickList (t (getD l k 0)) (getD l k 0 ∷ []) []
+    → keep t (take (k + 1) l) ≡ keep t (take k l) ++ choose (t (getD l k 0)) (getD l k 0 ∷ []) []
 unfolding keep
 keep-next t l k h = rw (add-one, take-suc l k 0 h) (keep-append t (take k l) (getD l k 0 ∷ []))
 
@@ -70,7 +76,7 @@ unfolding keep
 length-keep-le t [] = omega arith
 length-keep-le t (n ∷ l) = go (t n) (length-keep-le t l)
   where
-    go : (b : Bool) → length (keep t l) ≤ length l → length (pickList b (n ∷ keep t l) (keep t l)) ≤ suc (length l)
+    go : (b : Bool) → length (keep t l) ≤ length l → length (choose b (n ∷ keep t l) (keep t l)) ≤ suc (length l)
     go true h = omega arith
     go false h = omega arith
 
@@ -91,7 +97,7 @@ every-keep P t [] f i h = f i h
 every-keep P t (n ∷ l) f i h =
     go (t n) (every-keep P t l (λ i lt. f (suc i) (suc-le-suc lt))) (f zero (suc-le-suc zero-le)) i h
   where
-    go : (b : Bool) → Every P (keep t l) → P n → Every P (pickList b (n ∷ keep t l) (keep t l))
+    go : (b : Bool) → Every P (keep t l) → P n → Every P (choose b (n ∷ keep t l) (keep t l))
     go true f z zero h = z
     go true f z (suc i) h = f i (le-of-suc-le-suc h)
     go false f z i h = f i h

@@ -39,7 +39,8 @@ pub sum-room : (k i : ℕ) (f : ℕ → ℕ) → i < k → sumOf i f + f i ≤ s
 sum-room k i f h = omega (arith, sum-mono (i + 1) k f (omega arith), sum-step i f)
 
 -- one summand taken out
-pub sum-without : (k n : ℕ) (f g : ℕ → ℕ) → n < k → g n ≡ 0 → ((i : ℕ) → i < k → (i ≡ n → ⊥) → g i ≡ f i) → sumOf k g + f n ≡ sumOf k f
+pub sum-without : (k n : ℕ) (f g : ℕ → ℕ) → n < k → g n ≡ 0 → ((i : ℕ) → i < k → (i ≡ n → ⊥) → g i ≡ f i)
+    → sumOf k g + f n ≡ sumOf k f
 unfolding sumOf
 sum-without zero n f g h z o = omega arith
 sum-without (suc k) n f g h z o = ⊎-elim

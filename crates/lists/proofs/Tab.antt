@@ -46,7 +46,8 @@ getD-each g (p ∷ l) zero h = refl
 getD-each g (p ∷ l) (suc i) h = getD-each (λ i. g (suc i)) l i (le-of-suc-le-suc h)
 
 -- a list that is as the rule says at each index, as a loop over a buffer leaves it
-pub is-each : (l k : List ℕ) (g : ℕ → ℕ → ℕ) → length k ≡ length l → ((i : ℕ) → i < length l → getD k i 0 ≡ g i (getD l i 0)) → k ≡ each g l
+pub is-each : (l k : List ℕ) (g : ℕ → ℕ → ℕ) → length k ≡ length l
+    → ((i : ℕ) → i < length l → getD k i 0 ≡ g i (getD l i 0)) → k ≡ each g l
 is-each l k g e h =
     ext-getD 0 k (each g l) (e ∙ sym (length-each g l))
     (λ i lt. let b : i < length l = omega arith in h i b ∙ sym (getD-each g l i b))
@@ -58,7 +59,8 @@ each-cong g h (p ∷ l) e =
     ap₂ (λ (x : ℕ) (y : List ℕ). x ∷ y) (e zero p) (each-cong (λ i. g (suc i)) (λ i. h (suc i)) l (λ i q. e (suc i) q))
 
 -- two rules that agree below the list's length
-pub each-cong-below : (g h : ℕ → ℕ → ℕ) (l : List ℕ) → ((i : ℕ) → i < length l → g i (getD l i 0) ≡ h i (getD l i 0)) → each g l ≡ each h l
+pub each-cong-below : (g h : ℕ → ℕ → ℕ) (l : List ℕ) → ((i : ℕ) → i < length l → g i (getD l i 0) ≡ h i (getD l i 0))
+    → each g l ≡ each h l
 each-cong-below g h l e = is-each l (each g l) h (length-each g l) (λ i b. getD-each g l i b ∙ e i b)
 
 -- a rule that leaves every element
@@ -75,11 +77,13 @@ each-each g h [] = refl
 each-each g h (p ∷ l) = ap (λ (y : List ℕ). h zero (g zero p) ∷ y) (each-each (λ i. g (suc i)) (λ i. h (suc i)) l)
 
 -- one more step h, in front of what is left, g: the whole is f
-pub each-turn : (g h f : ℕ → ℕ → ℕ) (l : List ℕ) {l′ w : List ℕ} → l′ ≡ each h l → ((i p : ℕ) → f i p ≡ g i (h i p)) → each f l ≡ w → each g l′ ≡ w
+pub each-turn : (g h f : ℕ → ℕ → ℕ) (l : List ℕ) {l′ w : List ℕ} → l′ ≡ each h l → ((i p : ℕ) → f i p ≡ g i (h i p))
+    → each f l ≡ w → each g l′ ≡ w
 each-turn g h f l e s i = ap (each g) e ∙ each-each h g l ∙ each-cong _ f l (λ i p. sym (s i p)) ∙ i
 
 -- one more step h, after what is done, g: together f
-pub each-then : (g h f : ℕ → ℕ → ℕ) (l : List ℕ) {l′ l″ : List ℕ} → l′ ≡ each g l → l″ ≡ each h l′ → ((i p : ℕ) → f i p ≡ h i (g i p)) → l″ ≡ each f l
+pub each-then : (g h f : ℕ → ℕ → ℕ) (l : List ℕ) {l′ l″ : List ℕ} → l′ ≡ each g l → l″ ≡ each h l′
+    → ((i p : ℕ) → f i p ≡ h i (g i p)) → l″ ≡ each f l
 each-then g h f l e e′ s = e′ ∙ ap (each h) e ∙ each-each g h l ∙ each-cong _ f l (λ i p. sym (s i p))
 
 -- ---- a part of a list, n elements from o on
@@ -92,7 +96,8 @@ getD-part l o n i h = getD-take n (drop o l) i 0 h ∙ getD-drop o l i 0
 
 -- ---- a part that was lent came back with the rule g of its own, and nothing else changed: one rule f
 
-module _ (f g : ℕ → ℕ → ℕ) (l part : List ℕ) (o n : ℕ) (fits : o + n ≤ length l) (e : part ≡ each g (take n (drop o l))) where
+module _ (f g : ℕ → ℕ → ℕ) (l part : List ℕ) (o n : ℕ) (fits : o + n ≤ length l)
+    (e : part ≡ each g (take n (drop o l))) where
   length-lent : length part ≡ n
   length-lent = ap length e ∙ length-each g (take n (drop o l)) ∙ length-part l o n fits
 
@@ -114,7 +119,8 @@ module _ (f g : ℕ → ℕ → ℕ) (l part : List ℕ) (o n : ℕ) (fits : o +
       ∙ sym (high (o + j) _ (omega arith) h))
       (split j n)
 
-  pub each-part : ((i p : ℕ) → i < n → f (o + i) p ≡ g i p) → ((i p : ℕ) → i < o → f i p ≡ p) → ((i p : ℕ) → o + n ≤ i → i < length l → f i p ≡ p)
+  pub each-part : ((i p : ℕ) → i < n → f (o + i) p ≡ g i p) → ((i p : ℕ) → i < o → f i p ≡ p)
+      → ((i p : ℕ) → o + n ≤ i → i < length l → f i p ≡ p)
       → take o l ++ (part ++ drop n (drop o l)) ≡ each f l
   each-part mid low high =
       let long-o : length (take o l) ≡ o = length-take-le o l (omega arith) in

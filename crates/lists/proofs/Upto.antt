@@ -22,7 +22,8 @@ pub upto-none : (l : List ℕ) (f : ℕ → ℕ) → Upto l l f 0
 upto-none l f = record { long = refl; new = λ i h b. absurd (not-suc-le-zero h); old = λ i h. refl }
 
 -- a store at the front's end
-pub upto-set : {l l₀ : List ℕ} {f : ℕ → ℕ} {k m : ℕ} (j v : ℕ) → Upto l l₀ f k → j ≡ k → m ≡ k + 1 → j < length l₀ → v ≡ f j → Upto (set l j v) l₀ f m
+pub upto-set : {l l₀ : List ℕ} {f : ℕ → ℕ} {k m : ℕ} (j v : ℕ) → Upto l l₀ f k → j ≡ k → m ≡ k + 1 → j < length l₀
+    → v ≡ f j → Upto (set l j v) l₀ f m
 upto-set {l} {l₀} {f} {k} {m} j v u at to b e = record {
   long = length-set l j v ∙ u .long;
   new = λ i h hb. ⊎-elim
@@ -33,7 +34,8 @@ upto-set {l} {l₀} {f} {k} {m} j v u at to b e = record {
 }
 
 -- what is as the rule says already is passed over
-pub upto-skip : {l l₀ : List ℕ} {f : ℕ → ℕ} {k : ℕ} (m : ℕ) → Upto l l₀ f k → k ≤ m → ((i : ℕ) → k ≤ i → i < m → i < length l₀ → f i ≡ getD l₀ i 0) → Upto l l₀ f m
+pub upto-skip : {l l₀ : List ℕ} {f : ℕ → ℕ} {k : ℕ} (m : ℕ) → Upto l l₀ f k → k ≤ m
+    → ((i : ℕ) → k ≤ i → i < m → i < length l₀ → f i ≡ getD l₀ i 0) → Upto l l₀ f m
 upto-skip {l} {l₀} {f} {k} m u h same = record {
   long = u .long;
   new = λ i hi hb. ⊎-elim
@@ -44,7 +46,8 @@ upto-skip {l} {l₀} {f} {k} m u h same = record {
 }
 
 -- a part from o to e was lent and came back with the rule's values
-pub upto-part : {l l₀ : List ℕ} {f : ℕ → ℕ} {k : ℕ} (part : List ℕ) (o e : ℕ) → Upto l l₀ f k → o ≡ k → o ≤ e → e ≤ length l₀ → length part ≡ e - o
+pub upto-part : {l l₀ : List ℕ} {f : ℕ → ℕ} {k : ℕ} (part : List ℕ) (o e : ℕ) → Upto l l₀ f k → o ≡ k → o ≤ e
+    → e ≤ length l₀ → length part ≡ e - o
     → ((i : ℕ) → i < e - o → getD part i 0 ≡ f (o + i)) → Upto (take o l ++ part ++ drop e l) l₀ f e
 upto-part {l} {l₀} {f} {k} part o e u at oe el pl val =
     let long-o : length (take o l) ≡ o = length-take-le o l (omega (arith, u .long)) in
@@ -52,18 +55,23 @@ upto-part {l} {l₀} {f} {k} part o e u at oe el pl val =
     record {
       long = simp (length-append, length-drop) (omega (arith, u .long, long-o));
       new = λ i h hb. List·getD-append (take o l ++ part) (drop e l) 0 i (omega arith) ∙ ⊎-elim
-          (λ (lt : i < o). List·getD-append (take o l) part 0 i (omega arith) ∙ getD-take o l i 0 lt ∙ u .new i (omega arith) hb)
+          (λ (lt : i < o). List·getD-append (take o l) part 0 i (omega arith) ∙ getD-take o l i 0 lt
+          ∙ u .new i (omega arith) hb)
           (λ (ge : o ≤ i). let q : i ≡ length (take o l) + (i - o) = omega arith in
-          ap (λ (n : ℕ). getD (take o l ++ part) n 0) q ∙ getD-append-add (take o l) part (i - o) 0 ∙ val (i - o) (omega arith)
+          ap (λ (n : ℕ). getD (take o l ++ part) n 0) q ∙ getD-append-add (take o l) part (i - o) 0
+          ∙ val (i - o) (omega arith)
           ∙ ap f (let q2 : o + (i - o) ≡ i = omega arith in q2))
           (split i o);
       old = λ i h. let q : i ≡ length (take o l ++ part) + (i - e) = omega arith in
-          ap (λ (n : ℕ). getD (take o l ++ part ++ drop e l) n 0) q ∙ getD-append-add (take o l ++ part) (drop e l) (i - e) 0
-          ∙ getD-drop e l (i - e) 0 ∙ ap (λ (n : ℕ). getD l n 0) (let q2 : e + (i - e) ≡ i = omega arith in q2) ∙ u .old i (omega arith);
+          ap (λ (n : ℕ). getD (take o l ++ part ++ drop e l) n 0) q
+          ∙ getD-append-add (take o l ++ part) (drop e l) (i - e) 0
+          ∙ getD-drop e l (i - e) 0 ∙ ap (λ (n : ℕ). getD l n 0) (let q2 : e + (i - e) ≡ i = omega arith in q2)
+          ∙ u .old i (omega arith);
     }
 
 -- the same as the borrow checker writes it: n elements from o on
-pub upto-lent : {l l₀ : List ℕ} {f : ℕ → ℕ} {k m : ℕ} (part : List ℕ) (o n : ℕ) → Upto l l₀ f k → o ≡ k → m ≡ o + n → o + n ≤ length l₀ → length part ≡ n
+pub upto-lent : {l l₀ : List ℕ} {f : ℕ → ℕ} {k m : ℕ} (part : List ℕ) (o n : ℕ) → Upto l l₀ f k → o ≡ k → m ≡ o + n
+    → o + n ≤ length l₀ → length part ≡ n
     → ((i : ℕ) → i < n → getD part i 0 ≡ f (o + i)) → Upto (take o l ++ (part ++ drop n (drop o l))) l₀ f m
 upto-lent {l} {l₀} {f} {k} {m} part o n u at to el pl val =
     rw (drop-drop n o l, ← append-assoc (take o l) part (drop (o + n) l), to)

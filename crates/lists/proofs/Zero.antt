@@ -14,7 +14,8 @@ pub zero-stops : (n : ℕ) (f : ℕ → ℕ) (k : ℕ) → k < n → f k ≡ 0 �
 unfolding zeroFrom
 zero-stops n f k h e = let q : n - k ≡ suc (n - (k + 1)) = omega arith in rw q (simp (eq-eqb (f k) 0 e))
 
-pub zero-passes : (n : ℕ) (f : ℕ → ℕ) (k : ℕ) → k < n → (f k ≡ 0 → ⊥) → zeroFrom (n - k) f k ≡ zeroFrom (n - (k + 1)) f (k + 1)
+pub zero-passes : (n : ℕ) (f : ℕ → ℕ) (k : ℕ) → k < n → (f k ≡ 0 → ⊥)
+    → zeroFrom (n - k) f k ≡ zeroFrom (n - (k + 1)) f (k + 1)
 unfolding zeroFrom
 zero-passes n f k h e = let q : n - k ≡ suc (n - (k + 1)) = omega arith in rw q (simp (ne-eqb (f k) 0 e))
 
@@ -28,10 +29,12 @@ pub zeroFrom-le : (n : ℕ) (f : ℕ → ℕ) (k : ℕ) → zeroFrom n f k ≤ k
 unfolding zeroFrom
 zeroFrom-le zero f k = omega arith
 zeroFrom-le (suc n) f k =
-    pick-keeps (λ (m : ℕ). m ≤ k + suc n) (eqb (f k) 0) k (zeroFrom n f (k + 1)) (λ _. omega arith) (λ _. omega (arith, zeroFrom-le n f (k + 1)))
+    pick-keeps (λ (m : ℕ). m ≤ k + suc n) (eqb (f k) 0) k (zeroFrom n f (k + 1)) (λ _. omega arith)
+    (λ _. omega (arith, zeroFrom-le n f (k + 1)))
 
 pub zeroFrom-ge : (n : ℕ) (f : ℕ → ℕ) (k : ℕ) → k ≤ zeroFrom n f k
 unfolding zeroFrom
 zeroFrom-ge zero f k = omega arith
 zeroFrom-ge (suc n) f k =
-    pick-keeps (λ (m : ℕ). k ≤ m) (eqb (f k) 0) k (zeroFrom n f (k + 1)) (λ _. omega arith) (λ _. omega (arith, zeroFrom-ge n f (k + 1)))
+    pick-keeps (λ (m : ℕ). k ≤ m) (eqb (f k) 0) k (zeroFrom n f (k + 1)) (λ _. omega arith)
+    (λ _. omega (arith, zeroFrom-ge n f (k + 1)))

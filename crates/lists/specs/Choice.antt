@@ -1,8 +1,7 @@
--- Choices by a test. There is one for numbers and one for lists, since a numeral takes its type
--- from where it stands. Assumes nothing.
+-- Choices by a test. Numbers have one of their own, since a numeral takes its type from where it
+-- stands. Assumes nothing.
 use Prim.Native.Nat.{ℕ}
 use mathlib.Core.Bool.{Bool, true, false}
-use mathlib.Core.List.{List}
 use lib.Dec.{eqb}
 
 -- a where the test holds, else b
@@ -10,14 +9,17 @@ abbrev pub pick : Bool → ℕ → ℕ → ℕ
 pick true a b = a
 pick false a b = b
 
-abbrev pub pickList : Bool → List ℕ → List ℕ → List ℕ
-pickList true a b = a
-pickList false a b = b
+-- the same of anything else: of lists, of states, of what a line leaves
+abbrev pub choose : {A : Type 0} → Bool → A → A → A
+choose true a b = a
+choose false a b = b
 
+-- a and b
 abbrev pub both : Bool → Bool → Bool
 both true b = b
 both false b = false
 
+-- a or b
 abbrev pub either : Bool → Bool → Bool
 either true b = true
 either false b = b

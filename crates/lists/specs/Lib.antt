@@ -1,4 +1,5 @@
--- Choices by a test, lists by a rule, steps in a row, a written front. Assumes nothing.
+-- Choices by a test, lists by a rule, steps in a row, a written front, calls by their values. Assumes
+-- nothing.
 pub mod Choice
 pub mod Tab
 pub mod Runs
@@ -7,3 +8,4 @@ pub mod Steps
 pub mod Over
 pub mod Cut
 pub mod Little
+pub mod Call

@@ -21,6 +21,9 @@ pub blendOf-ge : (a over under m : ℕ) → a ≤ 255 → m ≤ over → m ≤ u
 unfolding blendOf
 blendOf-ge a over under m h ho hu = omega (arith, parts-ge a 255 over under m h ho hu)
 
-pub blendOf-between : (a over under : ℕ) → a ≤ 255 → (min over under ≤ blendOf a over under) × (blendOf a over under ≤ max over under)
-blendOf-between a over under h =
-    (blendOf-ge a over under (min over under) h (omega arith) (omega arith), blendOf-le a over under (max over under) h (omega arith) (omega arith))
+pub blendOf-between : (a over under : ℕ) → a ≤ 255
+    → (min over under ≤ blendOf a over under) × (blendOf a over under ≤ max over under)
+blendOf-between a over under h = (
+  blendOf-ge a over under (min over under) h (omega arith) (omega arith),
+  blendOf-le a over under (max over under) h (omega arith) (omega arith),
+)

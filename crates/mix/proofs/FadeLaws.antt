@@ -70,12 +70,16 @@ unfolding fadeOf
 fadeOf-ge v t L start frame m hv ht =
     fadeAt-keeps (λ (z : ℕ). m ≤ z) v t L _ hv ht (λ h. way-ge v t L _ m h hv ht)
 
-pub fadeOf-between : (v t L start frame : ℕ) → (min v t ≤ fadeOf v t L start frame) × (fadeOf v t L start frame ≤ max v t)
-fadeOf-between v t L start frame =
-    (fadeOf-ge v t L start frame (min v t) (omega arith) (omega arith), fadeOf-le v t L start frame (max v t) (omega arith) (omega arith))
+pub fadeOf-between : (v t L start frame : ℕ)
+    → (min v t ≤ fadeOf v t L start frame) × (fadeOf v t L start frame ≤ max v t)
+fadeOf-between v t L start frame = (
+  fadeOf-ge v t L start frame (min v t) (omega arith) (omega arith),
+  fadeOf-le v t L start frame (max v t) (omega arith) (omega arith),
+)
 
 -- ---- the code's way to e
 
 -- what `wrapping_sub_u32` ensures
-pub is-elapsed : (frame start e : ℕ) → frame < 2 ^ 32 → start < 2 ^ 32 → e < 2 ^ 32 → (e + start) % 2 ^ 32 ≡ frame → elapsed frame start ≡ e
+pub is-elapsed : (frame start e : ℕ) → frame < 2 ^ 32 → start < 2 ^ 32 → e < 2 ^ 32 → (e + start) % 2 ^ 32 ≡ frame
+    → elapsed frame start ≡ e
 is-elapsed frame start e hf hs he q = omega arith

@@ -1,4 +1,5 @@
--- The laws that the crates above cite. Assumes nothing.
+-- The laws that the crates above cite, and that of one outcome. Assumes nothing.
 pub mod Parts
 pub mod BlendLaws
 pub mod FadeLaws
+pub mod Unique

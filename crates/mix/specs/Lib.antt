@@ -1,3 +1,4 @@
 -- What `src/lib.rt` promises. Assumes nothing.
+pub mod Pixel
 pub mod Blend
 pub mod Fade

@@ -1,19 +1,37 @@
 // One channel of a pixel over what is under it, and the alpha that a fade gives. Nothing here
 // knows of layers or buffers.
 ghost use mathlib.Core.Path.{_≡_};
+ghost use Prim.Native.Nat.{_<_};
 ghost use Rattle.mix.specs.Blend.{blendOf};
 ghost use Rattle.mix.specs.Fade.{fadeOf};
+
+// Bytes of a pixel: channel 0, 1, 2, alpha.
+pub const PIXEL_LEN: usize = 4;
+
+// Where in its pixel the alpha stands.
+pub const ALPHA_PLACE: usize = 3;
+
+// The alpha at which nothing under a pixel is seen, and that a fill writes.
+pub const OPAQUE: u8 = 255;
 
 // Read as signed, a number of 32 bits is negative from here on.
 const NEGATIVE: u32 = 2147483648;
 
-// `a` of 255 parts of `over`, the rest of `under`, rounded to the nearest.
+// `a` of 255 parts of `over`, the rest of `under`, rounded to the nearest, in sixteen bits. For t at
+// most 65,152 the quotient t / 255 is (t + 1) * 257 / 65,536, which takes a product and a shift; 128 is
+// the sum's own 127 and that 1.
+pub fn blended(a: u16, over: u16, under: u16) -> u16
+    requires { ⌜ (a < 256) × (over < 256) × (under < 256) ⌝ }
+    ensures { λ r. ⌜ (r ≡ blendOf a over under) × (r < 256) ⌝ }
+{
+    ((((a * over + (255 - a) * under + 128) as u32) * 257) / 65536) as u16
+}
+
+// The same of bytes.
 pub fn blend(a: u8, over: u8, under: u8) -> u8
     ensures { λ r. ⌜ r ≡ blendOf a over under ⌝ }
 {
-    let above = (a as u32) * (over as u32);
-    let below = ((255 - a) as u32) * (under as u32);
-    ((above + below + 127) / 255) as u8
+    blended(a as u16, over as u16, under as u16) as u8
 }
 
 // The alpha at a frame number: the word's own `value`, and from `start` on, over `length` frames,

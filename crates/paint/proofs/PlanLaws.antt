@@ -3,7 +3,7 @@ use mathlib.Core.Path.{_≡_, refl, sym, ap, _∙_}
 use mathlib.Core.Bool.{true, false}
 use mathlib.Core.Logic.{⊎-elim}
 use mathlib.Core.List.{List, [], _∷_, _++_, append-nil}
-use Prim.Native.Nat.{ℕ, zero, suc, _+_, _*_, _≤_, _<_}
+use Prim.Native.Nat.{ℕ, zero, suc, _+_, _≤_, _<_}
 use native.Mathlib.Numerals.{add-one}
 use native.Mathlib.Nat.{not-suc-le-zero}
 use native.Mathlib.Omega.{arith}
@@ -12,15 +12,15 @@ use lib.Seq.{getD-set-same, getD-set-other, getD-append-seam, take-all}
 use Rattle.lists.specs.Steps.{through, keep}
 use Rattle.lists.proofs.Choice.{split}
 use Rattle.lists.proofs.Steps.{through-next, keep-next, length-keep-le, Every, every-keep}
-use Rattle.words.specs.Fields.{widthOf, layerOf}
-use Rattle.words.specs.Order.{orderOf}
+use Rattle.words.specs.Fields.{layerOf}
+use Rattle.words.specs.Order.{orderOf, within, bandLayers}
 use Rattle.words.proofs.OrderLaws.{Enabled, orderOf-enabled, length-orderOf-le}
 use Rattle.paint.specs.declared.plan.Step.{Step}
 use Rattle.paint.specs.declared.plan.Plan.{Plan}
-use Rattle.paint.specs.Scene.{Scene}
-use Rattle.paint.specs.Band.{missing, markAt}
-use Rattle.paint.specs.Lines.{Lent, Painting, First}
-use Rattle.paint.specs.Plan.{within, bandLayers, Made, blank, Planned, Grown, Empty, Numbered, marked, markedTo}
+use Rattle.frames.specs.Scene.{Scene}
+use Rattle.frames.specs.Band.{missing, markAt}
+use Rattle.paint.specs.Engine.Lines.{OfLayer, OfLayers, OfFirst}
+use Rattle.paint.specs.Engine.Plan.{Made, blankStep, Planned, Grown, Empty, Numbered, marked, markedTo}
 
 abbrev plan : List Step → ℕ → Plan
 plan steps count = record { steps = steps; count = count }
@@ -28,7 +28,8 @@ plan steps count = record { steps = steps; count = count }
 -- ---- one layer more
 
 module _ (w : List ℕ) (frame : ℕ) (tables : List ℕ) where
-  planned-more : (l : List ℕ) (p : Plan) (n : ℕ) (t : Step) → p .count < 8 → Made w frame tables n t → Planned w frame tables l p
+  planned-more : (l : List ℕ) (p : Plan) (n : ℕ) (t : Step) → p .count < 8 → Made w frame tables n t
+      → Planned w frame tables l p
       → Planned w frame tables (l ++ (n ∷ [])) (plan (set (p .steps) (p .count) t) (p .count + 1))
   planned-more l p n t h m q =
       let long : length (l ++ (n ∷ [])) ≡ length l + 1 = length-append l (n ∷ []) in
@@ -36,10 +37,18 @@ module _ (w : List ℕ) (frame : ℕ) (tables : List ℕ) where
         room = length-set (p .steps) (p .count) t ∙ q .room;
         count = ap (λ (k : ℕ). k + 1) (q .count) ∙ sym long;
         made = λ j b. ⊎-elim
-            (λ (lt : j < length l). rw (List·getD-append l (n ∷ []) 0 j lt, getD-set-other (p .steps) (p .count) j t blank (λ e. omega (arith, q .count))) (q .made j lt))
+            (λ (lt : j < length l). rw (
+              List·getD-append l (n ∷ []) 0 j lt,
+              getD-set-other (p .steps) (p .count) j t blankStep (λ e. omega (arith, q .count)),
+            ) (q .made j lt))
             (λ (ge : length l ≤ j).
             let e : j ≡ length l = omega arith in
-            rw (e, getD-append-seam l n [], ← (q .count), getD-set-same (p .steps) (p .count) t blank (omega (arith, q .room))) m)
+            rw (
+              e,
+              getD-append-seam l n [],
+              ← (q .count),
+              getD-set-same (p .steps) (p .count) t blankStep (omega (arith, q .room)),
+            ) m)
             (split j (length l));
       }
 
@@ -61,17 +70,27 @@ module _ (w : List ℕ) (frame : ℕ) (tables : List ℕ) where
   unfolding keep
   plan-none a b p e = record { room = e .room; count = e .none; made = λ j h. absurd (not-suc-le-zero h) }
 
-  pub plan-next : (a b i n : ℕ) (p r : Plan) → i < length (orderOf w) → n ≡ getD (orderOf w) i 0 → Planned w frame tables (bandTo a b i) p
+  pub plan-next : (a b i n : ℕ) (p r : Plan) → i < length (orderOf w) → n ≡ getD (orderOf w) i 0
+      → Planned w frame tables (bandTo a b i) p
       → Grown w frame tables a b n p r → Planned w frame tables (bandTo a b (i + 1)) r
-  plan-next a b i n p r h e q g = rw (keep-next (λ n. within a b (layerOf w n)) (orderOf w) i h, ← e) (g .grown (bandTo a b i) q)
+  plan-next a b i n p r h e q g =
+      rw (keep-next (λ n. within a b (layerOf w n)) (orderOf w) i h, ← e) (g .grown (bandTo a b i) q)
 
-  pub plan-all : (a b i : ℕ) (p : Plan) → length (orderOf w) ≤ i → Planned w frame tables (bandTo a b i) p → Planned w frame tables (bandLayers w a b) p
+  pub plan-all : (a b i : ℕ) (p : Plan) → length (orderOf w) ≤ i → Planned w frame tables (bandTo a b i) p
+      → Planned w frame tables (bandLayers w a b) p
   unfolding bandLayers
   plan-all a b i p h q = rw (take-all i (orderOf w) h) at q
 
-  pub plan-room : (a b i : ℕ) (p : Plan) → i < length (orderOf w) → Planned w frame tables (bandTo a b i) p → p .count < 8
+  pub plan-room : (a b i : ℕ) (p : Plan) → i < length (orderOf w) → Planned w frame tables (bandTo a b i) p
+      → p .count < 8
   plan-room a b i p h q =
-      omega (arith, q .count, length-keep-le (λ n. within a b (layerOf w n)) (take i (orderOf w)), length-take i (orderOf w), length-orderOf-le w)
+      omega (
+        arith,
+        q .count,
+        length-keep-le (λ n. within a b (layerOf w n)) (take i (orderOf w)),
+        length-take i (orderOf w),
+        length-orderOf-le w,
+      )
 
 -- ---- its layers are layers
 
@@ -84,33 +103,33 @@ unfolding bandLayers
 length-bandLayers-le w a b =
     omega (arith, length-keep-le (λ n. within a b (layerOf w n)) (orderOf w), length-orderOf-le w)
 
-pub planned-numbered : (w : List ℕ) (frame : ℕ) (tables : List ℕ) (a b : ℕ) (p : Plan) → Planned w frame tables (bandLayers w a b) p → Numbered p
+pub planned-numbered : (w : List ℕ) (frame : ℕ) (tables : List ℕ) (a b : ℕ) (p : Plan)
+    → Planned w frame tables (bandLayers w a b) p → Numbered p
 planned-numbered w frame tables a b p q =
     record {
       few = omega (arith, q .count, length-bandLayers-le w a b);
-      number = λ j h. rw (q .made j (omega (arith, q .count)) .number) (bandLayers-enabled w a b j (omega (arith, q .count)) .0);
+      number = λ j h. rw (q .made j (omega (arith, q .count)) .number)
+          (bandLayers-enabled w a b j (omega (arith, q .count)) .0);
     }
 
-pub planned-number : (w : List ℕ) (frame : ℕ) (tables l : List ℕ) (p : Plan) (j : ℕ) → Planned w frame tables l p → j < p .count → getD (p .steps) j blank .number ≡ getD l j 0
-planned-number w frame tables l p j q h = q .made j (omega (arith, q .count)) .number
+-- ---- its steps are the layers'
 
-pub planned-painting : (s : Scene) (line : List ℕ) (a b j : ℕ) (p : Plan) → Lent s → length line ≡ 4 * widthOf (s .words)
-    → Planned (s .words) (s .frame) (s .tables) (bandLayers (s .words) a b) p → j < p .count → Painting s line (getD (p .steps) j blank)
-planned-painting s line a b j p lent long q h =
-    let lt : j < length (bandLayers (s .words) a b) = omega (arith, q .count) in
-    let m = q .made j lt in
-    let e = m .number in
-    let on = bandLayers-enabled (s .words) a b j lt in
-    record { lent = lent; long = long; number = rw e (on .0); on = rw e (on .1); made = rw e m }
+module _ (s : Scene) (l : List ℕ) (p : Plan) (j : ℕ) (q : OfLayers s l p) (h : j < p .count) where
+  pub planned-number : getD (p .steps) j blankStep .number ≡ getD l j 0
+  planned-number = q .made j (omega (arith, q .count)) .number
 
-pub planned-first : (s : Scene) (line : List ℕ) (a b : ℕ) (p : Plan) → Lent s → length line ≡ 4 * widthOf (s .words)
-    → Planned (s .words) (s .frame) (s .tables) (bandLayers (s .words) a b) p → 0 < p .count → First s line (bandLayers (s .words) a b) (getD (p .steps) 0 blank)
-planned-first s line a b p lent long q h =
-    record { some = omega (arith, q .count); number = planned-number _ _ _ _ p 0 q h; painting = planned-painting s line a b 0 p lent long q h }
+  pub planned-layer : OfLayer s (getD (p .steps) j blankStep)
+  planned-layer = rw planned-number (q .made j (omega (arith, q .count)))
+
+pub planned-first : (s : Scene) (l : List ℕ) (p : Plan) → OfLayers s l p → 0 < p .count
+    → OfFirst s l (getD (p .steps) 0 blankStep)
+planned-first s l p q h =
+    record { some = omega (arith, q .count); number = planned-number s l p 0 q h; layer = planned-layer s l p 0 q h }
 
 -- ---- the marks
 
-pub marked-next : (p : Plan) (k e r : ℕ) → r ≡ marked (getD (p .steps) k blank) (markedTo p k e) → r ≡ markedTo p (k + 1) e
+pub marked-next : (p : Plan) (k e r : ℕ) → r ≡ marked (getD (p .steps) k blankStep) (markedTo p k e)
+    → r ≡ markedTo p (k + 1) e
 unfolding markedTo
 marked-next p k e r q = rw add-one q
 
@@ -121,15 +140,17 @@ pub marked-none : (p : Plan) (e : ℕ) → e ≡ markedTo p 0 e
 unfolding markedTo
 marked-none p e = refl
 
-marked-is : (s : Scene) (n : ℕ) (t : Step) (e : ℕ) → Made (s .words) (s .frame) (s .tables) n t → marked t e ≡ markAt s n e
+marked-is : (s : Scene) (n : ℕ) (t : Step) (e : ℕ) → Made (s .words) (s .frame) (s .tables) n t
+    → marked t e ≡ markAt s n e
 unfolding marked markAt missing
 marked-is s n t e m = rw (m .number, m .layer, m .end)
 
-pub marks-is : (s : Scene) (l : List ℕ) (p : Plan) (k e : ℕ) → k ≤ length l → Planned (s .words) (s .frame) (s .tables) l p
+pub marks-is : (s : Scene) (l : List ℕ) (p : Plan) (k e : ℕ) → k ≤ length l
+    → Planned (s .words) (s .frame) (s .tables) l p
     → markedTo p k e ≡ through (markAt s) (take k l) e
 unfolding markedTo through
 marks-is s l p zero e h q = refl
 marks-is s l p (suc k) e h q =
-    marked-is s (getD l k 0) (getD (p .steps) k blank) _ (q .made k h)
+    marked-is s (getD l k 0) (getD (p .steps) k blankStep) _ (q .made k h)
     ∙ ap (markAt s (getD l k 0)) (marks-is s l p k e (omega arith) q)
     ∙ sym (through-next (markAt s) l k e h) ∙ ap (λ (j : ℕ). through (markAt s) (take j l) e) (add-one k)

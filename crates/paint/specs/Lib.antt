@@ -1,7 +1,4 @@
--- What `src/` promises. Assumes nothing.
-pub mod Scene
-pub mod Pixel
-pub mod Band
-pub mod Frame
-pub mod Plan
-pub mod Lines
+-- What `src/` promises: `Painted` for callers, of the definitions of `frames`; `Engine` for the workers
+-- inside. Assumes nothing.
+pub mod Painted
+pub mod Engine

@@ -3,23 +3,23 @@
 // ground, so that the line is written once.
 ghost use mathlib.Core.Path.{_≡_};
 ghost use mathlib.Core.Bool.{true, false};
-ghost use Prim.Native.Nat.{_*_, _%_, _<_};
+ghost use Prim.Native.Nat.{_+_, _*_, _%_, _<_, _≤_};
 ghost use lib.Dec.{ltb};
 ghost use lib.ListN.{length};
 ghost use Rattle.lists.specs.Choice.{both};
 ghost use Rattle.lists.specs.Tab.{each};
+ghost use Rattle.mix.specs.Pixel.{pixelLen};
 ghost use Rattle.span.specs.Span.{overByte};
-ghost use Rattle.words.specs.Fields.{widthOf};
-ghost use Rattle.paint.specs.Scene.{sceneOf};
-ghost use Rattle.paint.specs.Plan.{bandLayers};
-ghost use Rattle.paint.specs.Lines.{Painting, OnRow, First, groundByte, lineByte, lineTo, wholeLine};
+ghost use Rattle.paint.specs.Engine.Lines.{Pictured, OnRow, rowStart, groundByte, wholeLine};
+ghost use Rattle.paint.specs.Engine.Lines.{Shows, Over, OverTo};
 use crate::line::row_start;
 use crate::plan::Step;
+use mix::PIXEL_LEN;
 use words::fields::Ground;
 
 // The ground of a run.
 pub fn lay_ground(out: &mut [u8], fresh: bool, ground: Ground)
-    requires { ⌜ length (now out) % 4 ≡ 0 ⌝ }
+    requires { ⌜ length (now out) % pixelLen ≡ 0 ⌝ }
     ensures { λ _. ⌜ now (out .exit) ≡ each (groundByte ground fresh) (now (out .entry)) ⌝ }
 {
     if !fresh {
@@ -30,8 +30,9 @@ pub fn lay_ground(out: &mut [u8], fresh: bool, ground: Ground)
 
 // One run over the background: at the layer's alpha, or each pixel at its own.
 fn over_ground(out: &mut [u8], run: &[u8], global: bool, alpha: u8, ground: Ground)
-    requires { ⌜ (length (now out) ≡ length (now run)) × (length (now out) % 4 ≡ 0) ⌝ }
-    ensures { λ _. ⌜ now (out .exit) ≡ each (overByte (now (run .entry)) global alpha) (each (groundByte ground true) (now (out .entry))) ⌝ }
+    requires { ⌜ (length (now out) ≡ length (now run)) × (length (now out) % pixelLen ≡ 0) ⌝ }
+    ensures { λ _. ⌜ now (out .exit) ≡ each (overByte (now (run .entry)) global alpha)
+        (each (groundByte ground true) (now (out .entry))) ⌝ }
 {
     if global {
         span::lay_flat(out, run, alpha, ground.c0, ground.c1, ground.c2);
@@ -41,20 +42,13 @@ fn over_ground(out: &mut [u8], run: &[u8], global: bool, alpha: u8, ground: Grou
 }
 
 // Line y of a frame layer that takes up the whole line, over the background.
-fn lay_picture(
-    line: &mut [u8],
-    w: &[u32; 52],
-    frame: u32,
-    tables: &[u8],
-    pictures: &[u8],
-    ground: Ground,
-    step: Step,
-    y: usize,
-)
-    requires { ⌜ Painting (sceneOf (now w) frame (now tables) (now pictures)) (now line) step × OnRow step y × (step .layer .graphics ≡ false) × (4 * step .wide ≡ length (now line)) ⌝ }
-    ensures { λ _. ⌜ now (line .exit) ≡ each (lineByte (sceneOf (now (w .entry)) frame (now (tables .entry)) (now (pictures .entry))) y (step .number)) (each (groundByte ground true) (now (line .entry))) ⌝ }
+fn lay_picture(line: &mut [u8], pictures: &[u8], ground: Ground, step: Step, y: usize)
+    requires { ⌜ OnRow step y × (pixelLen * step .wide ≡ length (now line)) × (step .layer .graphics ≡ false) ⌝ }
+    requires { ⌜ rowStart step y + pixelLen * step .wide ≤ length (now pictures) ⌝ }
+    ensures { λ _. ⌜ Over (Shows (now (pictures .entry))) step y
+        (each (groundByte ground true) (now (line .entry))) (now (line .exit)) ⌝ }
 {
-    let wide = 4 * step.wide;
+    let wide = PIXEL_LEN * step.wide;
     let from = row_start(pictures, step, y);
     over_ground(
         line,
@@ -99,23 +93,19 @@ fn is_laid_first(fresh: bool, count: usize, step: Step, pixels: usize, y: usize)
 // of a fresh frame. Answers how many layers were laid, 0 or 1.
 pub fn lay_first(
     line: &mut [u8],
-    w: &[u32; 52],
-    frame: u32,
-    tables: &[u8],
     pictures: &[u8],
-    low: u32,
-    high: u32,
     fresh: bool,
     ground: Ground,
     step: Step,
     count: usize,
     y: usize,
 ) -> usize
-    requires { ⌜ (length (now line) ≡ 4 * widthOf (now w)) × (0 < count → First (sceneOf (now w) frame (now tables) (now pictures)) (now line) (bandLayers (now w) low high) step) ⌝ }
-    ensures { λ r. ⌜ now (line .exit) ≡ each (lineTo (sceneOf (now (w .entry)) frame (now (tables .entry)) (now (pictures .entry))) y (bandLayers (now (w .entry)) low high) r) (each (groundByte ground fresh) (now (line .entry))) ⌝ }
+    requires { ⌜ (length (now line) % pixelLen ≡ 0) × (0 < count → Pictured (now pictures) step) ⌝ }
+    ensures { λ r. ⌜ OverTo (Shows (now (pictures .entry))) step count r y
+        (each (groundByte ground fresh) (now (line .entry))) (now (line .exit)) ⌝ }
 {
-    if is_laid_first(fresh, count, step, line.len() / 4, y) {
-        lay_picture(line, w, frame, tables, pictures, ground, step, y);
+    if is_laid_first(fresh, count, step, line.len() / PIXEL_LEN, y) {
+        lay_picture(line, pictures, ground, step, y);
         return 1;
     }
     lay_ground(line, fresh, ground);

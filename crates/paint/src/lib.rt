@@ -3,26 +3,27 @@
 ghost use mathlib.Core.Path.{_≡_};
 ghost use Prim.Native.Nat.{_≤_, _<_};
 ghost use lib.ListN.{length};
-ghost use Rattle.lists.specs.Choice.{pickList};
+ghost use Rattle.lists.specs.Choice.{choose};
 ghost use Rattle.words.specs.Fields.{widthOf};
-ghost use Rattle.paint.specs.Scene.{sceneOf};
-ghost use Rattle.paint.specs.Band.{bandOf, errorsOf};
-ghost use Rattle.paint.specs.Frame.{frameLen, fillOf, fillRefusal, fillAfter, paintTold, paintAfter, frameTold, frameAfter};
-ghost use Rattle.paint.specs.Lines.{Lent};
+ghost use Rattle.frames.specs.Scene.{sceneOf};
+ghost use Rattle.frames.specs.Band.{bandOf, errorsOf};
+ghost use Rattle.frames.specs.Frame.{frameLen, fillOf, fillRefusal, fillAfter, paintAfter, frameAfter};
+ghost use Rattle.paint.specs.Painted.{toldOf};
+ghost use Rattle.paint.specs.Engine.Lines.{Lent};
 use crate::ground::lay_ground;
 use crate::plan::marks_of;
 use crate::plan::plan_of;
-use crate::refusal::fill_refusal;
-use crate::refusal::paint_refusal;
 use crate::rows::paint_rows;
 use answers::DONE;
+use refusals::DEPTHS;
+use refusals::fill_refusal;
+use refusals::paint_refusal;
 use words::fields::ground_of;
 use words::fields::is_shown;
 
 mod ground;
 mod line;
 mod plan;
-mod refusal;
 mod rows;
 
 // What painting answers: 0 or the number of the refusal, and the error word afterwards.
@@ -59,16 +60,20 @@ fn paint_band(
     pictures: &[u8],
     out: &mut [u8],
 ) -> u32
-    requires { ⌜ Lent (sceneOf (now w) frame (now tables) (now pictures)) × (length (now out) ≡ frameLen (now w)) × (0 < widthOf (now w)) × (low ≤ high) × (high ≤ 8) ⌝ }
-    ensures errors { λ r. ⌜ r ≡ errorsOf (sceneOf (now (w .entry)) frame (now (tables .entry)) (now (pictures .entry))) low high errors ⌝ }
-    ensures output { λ _. ⌜ now (out .exit) ≡ bandOf (sceneOf (now (w .entry)) frame (now (tables .entry)) (now (pictures .entry))) low high (pickList fresh (fillOf (now (w .entry))) (now (out .entry))) ⌝ }
+    requires { ⌜ Lent (sceneOf (now w) frame (now tables) (now pictures)) × (length (now out) ≡ frameLen (now w))
+        × (0 < widthOf (now w)) × (low ≤ high) × (high ≤ 8) ⌝ }
+    ensures errors { λ r. ⌜ r ≡ errorsOf
+        (sceneOf (now (w .entry)) frame (now (tables .entry)) (now (pictures .entry))) low high errors ⌝ }
+    ensures output { λ _. ⌜ now (out .exit) ≡ bandOf
+        (sceneOf (now (w .entry)) frame (now (tables .entry)) (now (pictures .entry)))
+        low high (choose fresh (fillOf (now (w .entry))) (now (out .entry))) ⌝ }
 {
     if !is_shown(w) {
         lay_ground(out, fresh, ground_of(w));
         return errors;
     }
     let plan = plan_of(w, frame, tables, low, high);
-    paint_rows(out, w, frame, tables, pictures, low, high, fresh, plan);
+    paint_rows(out, w, tables, pictures, fresh, plan);
     marks_of(plan, errors)
 }
 
@@ -84,8 +89,11 @@ pub fn band(
     pictures: &[u8],
     out: &mut [u8],
 ) -> Painted
-    ensures told { λ r. ⌜ r ≡ paintTold (sceneOf (now (w .entry)) frame (now (tables .entry)) (now (pictures .entry))) low high (now (out .entry)) errors ⌝ }
-    ensures output { λ _. ⌜ now (out .exit) ≡ paintAfter (sceneOf (now (w .entry)) frame (now (tables .entry)) (now (pictures .entry))) low high (now (out .entry)) ⌝ }
+    ensures told { λ r. ⌜ r ≡ toldOf
+        (sceneOf (now (w .entry)) frame (now (tables .entry)) (now (pictures .entry)))
+        low high (now (out .entry)) errors ⌝ }
+    ensures output { λ _. ⌜ now (out .exit) ≡ paintAfter
+        (sceneOf (now (w .entry)) frame (now (tables .entry)) (now (pictures .entry))) low high (now (out .entry)) ⌝ }
 {
     let refusal = paint_refusal(w, low, high, out.len(), tables.len(), pictures.len());
     if refusal != DONE {
@@ -110,17 +118,19 @@ pub fn frame(
     pictures: &[u8],
     out: &mut [u8],
 ) -> Painted
-    ensures told { λ r. ⌜ r ≡ frameTold (sceneOf (now (w .entry)) frame (now (tables .entry)) (now (pictures .entry))) (now (out .entry)) errors ⌝ }
-    ensures output { λ _. ⌜ now (out .exit) ≡ frameAfter (sceneOf (now (w .entry)) frame (now (tables .entry)) (now (pictures .entry))) (now (out .entry)) ⌝ }
+    ensures told { λ r. ⌜ r ≡ toldOf
+        (sceneOf (now (w .entry)) frame (now (tables .entry)) (now (pictures .entry))) 0 8 (now (out .entry)) errors ⌝ }
+    ensures output { λ _. ⌜ now (out .exit) ≡ frameAfter
+        (sceneOf (now (w .entry)) frame (now (tables .entry)) (now (pictures .entry))) (now (out .entry)) ⌝ }
 {
-    let refusal = paint_refusal(w, 0, 8, out.len(), tables.len(), pictures.len());
+    let refusal = paint_refusal(w, 0, DEPTHS, out.len(), tables.len(), pictures.len());
     if refusal != DONE {
         return Painted {
             answer: refusal,
             errors: errors,
         };
     }
-    let marks = paint_band(w, frame, errors, 0, 8, true, tables, pictures, out);
+    let marks = paint_band(w, frame, errors, 0, DEPTHS, true, tables, pictures, out);
     Painted {
         answer: DONE,
         errors: marks,

@@ -4,18 +4,23 @@ ghost use mathlib.Core.Path.{_≡_};
 ghost use Prim.Native.Nat.{_+_, _<_, _≤_};
 ghost use lib.ListN.{length, take, drop};
 ghost use Rattle.words.specs.Pictures.{pictureStart};
-ghost use Rattle.tables.specs.Geometry.{tablesLen};
-ghost use Rattle.draw.specs.Drawing.{endOf};
+ghost use Rattle.tables.specs.Geometry.{tablesLen, listLen, coloursLen};
+ghost use Rattle.draw.specs.Drawing.{listEnd};
 ghost use Rattle.span.specs.Span.{PaletteOf};
 ghost use Rattle.lists.specs.Tab.{tab};
-ghost use Rattle.paint.specs.Plan.{Made, Planned, Grown, Empty, Numbered, bandLayers, within, marked, markedTo};
+ghost use Rattle.words.specs.Order.{bandLayers, within};
+ghost use Rattle.paint.specs.Engine.Plan.{Made, Planned, Grown, Empty, Numbered, marked, markedTo};
 use draw::ListEnd;
 use draw::list_end;
 use mix::fade;
 use numbers::least;
 use span::palette;
+use tables::COLOURS;
 use tables::COLOURS_LEN;
+use tables::FONT;
+use tables::LIST;
 use tables::LIST_LEN;
+use tables::STRINGS;
 use tables::active_at;
 use words::fields::Layer;
 use words::fields::layer_of;
@@ -49,16 +54,16 @@ pub struct Plan {
 
 // The end of the instruction list at a place of the tables.
 fn end_at(tables: &[u8], at: usize) -> ListEnd
-    requires { ⌜ at + 768 ≤ length (now tables) ⌝ }
-    ensures { λ r. ⌜ r ≡ endOf (take 768 (drop at (now (tables .entry)))) ⌝ }
+    requires { ⌜ at + listLen ≤ length (now tables) ⌝ }
+    ensures { λ r. ⌜ r ≡ listEnd (take listLen (drop at (now (tables .entry)))) ⌝ }
 {
     list_end(&tables[at..at + LIST_LEN])
 }
 
 // The sixteen colours at a place of the tables.
 fn palette_at(tables: &[u8], at: usize) -> [u32; 16]
-    requires { ⌜ at + 64 ≤ length (now tables) ⌝ }
-    ensures { λ r. ⌜ PaletteOf r (take 64 (drop at (now (tables .entry)))) ⌝ }
+    requires { ⌜ at + coloursLen ≤ length (now tables) ⌝ }
+    ensures { λ r. ⌜ PaletteOf r (take coloursLen (drop at (now (tables .entry)))) ⌝ }
 {
     palette(&tables[at..at + COLOURS_LEN])
 }
@@ -72,12 +77,12 @@ fn step_of(w: &[u32; 52], frame: u32, tables: &[u8], start: usize, n: usize) -> 
     let width = screen_width(w) as usize;
     let left = least(layer.x as usize, width);
     let wide = least(layer.width as usize, width - left);
-    let alpha = fade(layer.value, layer.target, layer.length, layer.start, frame);
+    let alpha = fade(layer.value, layer.target, layer.period, layer.start, frame);
     let controller = n as u32;
-    let list = active_at(w, 0, controller);
-    let colours = active_at(w, 1, controller);
-    let strings = active_at(w, 2, controller);
-    let font = active_at(w, 3, controller);
+    let list = active_at(w, controller, LIST);
+    let colours = active_at(w, controller, COLOURS);
+    let strings = active_at(w, controller, STRINGS);
+    let font = active_at(w, controller, FONT);
     let end = end_at(tables, list);
     let palette = palette_at(tables, colours);
     Step {
@@ -116,7 +121,8 @@ fn with_layer(
     low: u32,
     high: u32,
 ) -> Plan
-    requires { ⌜ (n < 8) × (length (now tables) ≡ tablesLen) × (starts ≡ tab 8 (pictureStart (now w))) × (plan .count < 8) ⌝ }
+    requires { ⌜ (n < 8) × (length (now tables) ≡ tablesLen) × (starts ≡ tab 8 (pictureStart (now w)))
+        × (plan .count < 8) ⌝ }
     ensures { λ r. ⌜ Grown (now (w .entry)) frame (now (tables .entry)) low high n plan r ⌝ }
 {
     if is_within(layer_of(w, n), low, high) {
@@ -132,7 +138,7 @@ fn with_layer(
 fn empty() -> Plan
     ensures { λ r. ⌜ Empty r ⌝ }
 {
-    let blank = Step {
+    let blankStep = Step {
         number: 0,
         layer: Layer {
             on: false,
@@ -145,7 +151,7 @@ fn empty() -> Plan
             width: 0,
             height: 0,
             start: 0,
-            length: 0,
+            period: 0,
             target: 0,
         },
         left: 0,
@@ -162,7 +168,7 @@ fn empty() -> Plan
         palette: [0; 16],
     };
     Plan {
-        steps: [blank; 8],
+        steps: [blankStep; 8],
         count: 0,
     }
 }
@@ -170,7 +176,8 @@ fn empty() -> Plan
 // The layers of the band, in the order of painting.
 pub fn plan_of(w: &[u32; 52], frame: u32, tables: &[u8], low: u32, high: u32) -> Plan
     requires { ⌜ length (now tables) ≡ tablesLen ⌝ }
-    ensures { λ r. ⌜ Planned (now (w .entry)) frame (now (tables .entry)) (bandLayers (now (w .entry)) low high) r ⌝ }
+    ensures { λ r. ⌜ Planned (now (w .entry)) frame (now (tables .entry))
+        (bandLayers (now (w .entry)) low high) r ⌝ }
 {
     let order = order_of(w);
     let starts = pictures_of(w).starts;

@@ -1,16 +1,15 @@
 // The lines of a frame, from the first to the last.
 ghost use mathlib.Core.Path.{_≡_};
-ghost use Prim.Native.Nat.{_*_, _≤_, _<_};
+ghost use Prim.Native.Nat.{_*_, _%_, _<_};
 ghost use lib.ListN.{length};
-ghost use Rattle.lists.specs.Tab.{each};
-ghost use Rattle.words.specs.Fields.{widthOf, groundsOf};
-ghost use Rattle.paint.specs.Scene.{sceneOf};
-ghost use Rattle.paint.specs.Plan.{Planned, bandLayers};
-ghost use Rattle.paint.specs.Frame.{frameLen};
-ghost use Rattle.paint.specs.Lines.{Lent, Scratch, laidByte, laidLine};
+ghost use Rattle.mix.specs.Pixel.{pixelLen};
+ghost use Rattle.words.specs.Fields.{widthOf};
+ghost use Rattle.frames.specs.Frame.{frameLen};
+ghost use Rattle.paint.specs.Engine.Lines.{AllFit, Scratch, Lends, Holds, LineLaid, RowsLaid};
 use crate::ground::lay_first;
 use crate::line::paint_line;
 use crate::plan::Plan;
+use mix::PIXEL_LEN;
 use words::fields::Ground;
 use words::fields::ground_of;
 use words::fields::screen_height;
@@ -29,78 +28,47 @@ fn pixel_room() -> [u8; 16384]
     [0u8; 16384]
 }
 
-// Line y: its ground, and the layers of a band over it.
+// Line y: its ground, and the layers of a plan over it.
 fn lay_line(
     line: &mut [u8],
     indexes: &mut [u8],
     row: &mut [u8],
-    w: &[u32; 52],
-    frame: u32,
     tables: &[u8],
     pictures: &[u8],
-    low: u32,
-    high: u32,
     fresh: bool,
     ground: Ground,
     plan: Plan,
     y: usize,
 )
-    requires { ⌜ Lent (sceneOf (now w) frame (now tables) (now pictures)) × Planned (now w) frame (now tables) (bandLayers (now w) low high) plan ⌝ }
-    requires { ⌜ (length (now line) ≡ 4 * widthOf (now w)) × (low ≤ high) × (high ≤ 8) × Scratch (now indexes) (now row) × (ground ≡ groundsOf (now w)) ⌝ }
-    ensures { λ _. ⌜ now (line .exit) ≡ each (laidLine (sceneOf (now (w .entry)) frame (now (tables .entry)) (now (pictures .entry))) low high fresh y) (now (line .entry)) ⌝ }
+    requires { ⌜ (length (now line) % pixelLen ≡ 0) × AllFit (now tables) (now pictures) (length (now line)) plan ⌝ }
+    requires { ⌜ Scratch (length (now line)) (now indexes) (now row) ⌝ }
+    ensures { λ _. ⌜ LineLaid (Lends (now (tables .entry)) (now (pictures .entry))) plan fresh ground y
+        (now (line .entry)) (now (line .exit)) ⌝ }
 {
-    let laid = lay_first(
-        line,
-        w,
-        frame,
-        tables,
-        pictures,
-        low,
-        high,
-        fresh,
-        ground,
-        plan.steps[0],
-        plan.count,
-        y,
-    );
+    let laid = lay_first(line, pictures, fresh, ground, plan.steps[0], plan.count, y);
     // A plan is copied for a call; where no layer is left there is none.
     if plan.count <= laid {
         return;
     }
-    paint_line(
-        line,
-        indexes,
-        row,
-        w,
-        frame,
-        tables,
-        pictures,
-        low,
-        high,
-        plan,
-        laid,
-        y,
-    );
+    paint_line(line, indexes, row, tables, pictures, plan, laid, y);
 }
 
-// The layers of a band over the whole output, or over the background where the frame is a fresh one:
+// The layers of a plan over the whole output, or over the background where the frame is a fresh one:
 // it is laid line by line, so that a line is still at hand when its layers come.
 pub fn paint_rows(
     out: &mut [u8],
     w: &[u32; 52],
-    frame: u32,
     tables: &[u8],
     pictures: &[u8],
-    low: u32,
-    high: u32,
     fresh: bool,
     plan: Plan,
 )
-    requires { ⌜ Lent (sceneOf (now w) frame (now tables) (now pictures)) × Planned (now w) frame (now tables) (bandLayers (now w) low high) plan ⌝ }
-    requires { ⌜ (length (now out) ≡ frameLen (now w)) × (0 < widthOf (now w)) × (low ≤ high) × (high ≤ 8) ⌝ }
-    ensures { λ _. ⌜ now (out .exit) ≡ each (laidByte (sceneOf (now (w .entry)) frame (now (tables .entry)) (now (pictures .entry))) low high fresh) (now (out .entry)) ⌝ }
+    requires { ⌜ (length (now out) ≡ frameLen (now w)) × (0 < widthOf (now w)) ⌝ }
+    requires { ⌜ AllFit (now tables) (now pictures) (pixelLen * widthOf (now w)) plan ⌝ }
+    ensures { λ _. ⌜ RowsLaid (Holds (now (w .entry)) (now (tables .entry)) (now (pictures .entry))) plan fresh
+        (now (out .entry)) (now (out .exit)) ⌝ }
 {
-    let stride = 4 * (screen_width(w) as usize);
+    let stride = PIXEL_LEN * (screen_width(w) as usize);
     let height = screen_height(w) as usize;
     let ground = ground_of(w);
     let mut indexes = index_room();
@@ -112,12 +80,8 @@ pub fn paint_rows(
             &mut out[at..at + stride],
             &mut indexes,
             &mut row,
-            w,
-            frame,
             tables,
             pictures,
-            low,
-            high,
             fresh,
             ground,
             plan,

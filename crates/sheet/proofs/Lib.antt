@@ -1,1 +1,2 @@
 -- The laws that proofs of this crate cite. Assumes nothing.
+pub mod Laws

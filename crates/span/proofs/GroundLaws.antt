@@ -1,24 +1,24 @@
 -- Blocks of a run over one pixel, and a whole run over a row of it. Assumes nothing.
 use mathlib.Core.Path.{_≡_, refl, sym, ap, _∙_}
 use mathlib.Core.Bool.{Bool, false}
-use mathlib.Core.Logic.{⊎-elim}
 use mathlib.Core.List.{List, [], _∷_}
 use Prim.Native.Nat.{ℕ, _+_, _-_, _*_, _/_, _%_, _≤_, _<_}
 use native.Mathlib.Omega.{arith}
 use lib.ListN.{length, getD}
 use Rattle.lists.specs.Tab.{tab, each}
-use Rattle.lists.proofs.Choice.{split}
 use Rattle.lists.proofs.Tab.{length-tab, getD-tab, is-each}
-use Rattle.span.specs.Span.{overByte, wordByte, fillByte}
-use Rattle.span.specs.Lanes.{Part, Front, Lanes, anew, layByte, WordIs, Bytes, PixelIs, SameIs, HalfIs, JoinIs, MixIs, AllAlpha, storeByte}
-use Rattle.span.proofs.PartLaws.{part-turn, part-cong}
+use Rattle.span.specs.Span.{overByte, wordByte, solidByte}
+use Rattle.span.specs.Engine.Lanes.{Part, Front, Lanes, anew, layByte, WordIs, Bytes, PixelIs, SameIs, HalfIs}
+use Rattle.span.specs.Engine.Lanes.{JoinIs, MixIs, AllAlpha, storeByte}
+use Rattle.span.proofs.PartLaws.{part-cong, part-over, part-to, block-turn, whole}
 use Rattle.span.proofs.LaneLaws.{storeByte-even, storeByte-odd}
-use Rattle.span.proofs.OverLaws.{overByte-clear, overByte-own}
-use Rattle.span.proofs.OverParts.{AlphaIs, mix-bytes, copy-bytes}
+use Rattle.span.proofs.OverLaws.{overByte-clear}
+use Rattle.span.proofs.OverParts.{AlphaIs, mix-bytes, copy-bytes, own-at}
 use Rattle.span.proofs.PixelLaws.{halves-byte, wordByte-is}
 use Rattle.span.proofs.RowLaws.{pixelByte-at}
 
-lay-is : (over : List ℕ) (g : Bool) (a : ℕ) (f : ℕ → ℕ) (i : ℕ) {p : ℕ} → p ≡ f i → overByte over g a i p ≡ layByte over g a f i
+lay-is : (over : List ℕ) (g : Bool) (a : ℕ) (f : ℕ → ℕ) (i : ℕ) {p : ℕ} → p ≡ f i
+    → overByte over g a i p ≡ layByte over g a f i
 unfolding layByte
 lay-is over g a f i e = ap (overByte over g a i) e
 
@@ -54,45 +54,54 @@ module _ (c at : ℕ) (h : at % 4 ≡ 0) where
     };
   }
     where
-      byte : (i r : ℕ) → i % 4 ≡ r → i < at + 64 → getD row i 0 ≡ getD (c % 256 ∷ c / 256 % 256 ∷ c / 65536 % 256 ∷ c / 16777216 ∷ []) r 0
+      byte : (i r : ℕ) → i % 4 ≡ r → i < at + 64
+          → getD row i 0 ≡ getD (c % 256 ∷ c / 256 % 256 ∷ c / 65536 % 256 ∷ c / 16777216 ∷ []) r 0
       byte i r m lt = getD-tab (at + 64) (wordByte c) i lt ∙ pixelByte-at _ _ _ _ i r m
 
   module _ (over : List ℕ) where
-    pub lay-mixed : {l l₀ ow p u al w : List ℕ} {g : Bool} {a : ℕ} → Lanes ow 32 (WordIs over at) → Lanes p 16 (SameIs c) → Lanes u 32 (HalfIs p)
-        → Lanes al 32 (AlphaIs over at g a) → Lanes w 32 (MixIs al ow u) → Part l l₀ (anew (storeByte w at)) at (at + 64)
+    pub lay-mixed : {l l₀ ow p u al w : List ℕ} {g : Bool} {a : ℕ} → Lanes ow 32 (WordIs over at)
+        → Lanes p 16 (SameIs c) → Lanes u 32 (HalfIs p)
+        → Lanes al 32 (AlphaIs over at g a) → Lanes w 32 (MixIs al ow u)
+        → Part l l₀ (anew (storeByte w at)) at (at + 64)
         → Part l l₀ (anew (layByte over g a (wordByte c))) at (at + 64)
     lay-mixed {g = g} {a = a} eo ep eu ea ew pt = part-cong pt (λ i h1 h2.
         mix-bytes row over g a at h eo (ground-words ep eu) ea ew i h1 h2
         ∙ lay-is over g a (wordByte c) i (getD-tab (at + 64) (wordByte c) i h2))
 
-    pub lay-copied : {l l₀ p q w hw : List ℕ} → Lanes p 16 (PixelIs over at) → Lanes q 16 (SameIs c) → Lanes w 16 (JoinIs p q) → Lanes hw 32 (HalfIs w)
-        → AllAlpha over at 16 255 → Part l l₀ (anew (storeByte hw at)) at (at + 64) → Part l l₀ (anew (layByte over false 0 (wordByte c))) at (at + 64)
+    pub lay-copied : {l l₀ p q w hw : List ℕ} → Lanes p 16 (PixelIs over at) → Lanes q 16 (SameIs c)
+        → Lanes w 16 (JoinIs p q) → Lanes hw 32 (HalfIs w)
+        → AllAlpha over at 16 255 → Part l l₀ (anew (storeByte hw at)) at (at + 64)
+        → Part l l₀ (anew (layByte over false 0 (wordByte c))) at (at + 64)
     lay-copied ep eq ew eh all pt = part-cong pt (λ i h1 h2.
         copy-bytes row over at h ep (ground-pixels eq) ew eh i h1 h2
-        ∙ overByte-own over i (getD row i 0) (at + 4 * ((i - at) / 4) + 3) 255 (omega arith) (all .all ((i - at) / 4) (omega arith))
+        ∙ own-at over at 16 255 h all i (getD row i 0) h1 h2
         ∙ lay-is over false 0 (wordByte c) i (getD-tab (at + 64) (wordByte c) i h2))
 
-    pub lay-clear : {l l₀ : List ℕ} → AllAlpha over at 16 0 → Part l l₀ (anew (wordByte c)) at (at + 64) → Part l l₀ (anew (layByte over false 0 (wordByte c))) at (at + 64)
+    pub lay-clear : {l l₀ : List ℕ} → AllAlpha over at 16 0 → Part l l₀ (anew (wordByte c)) at (at + 64)
+        → Part l l₀ (anew (layByte over false 0 (wordByte c))) at (at + 64)
     lay-clear all pt = part-cong pt (λ i h1 h2.
         sym (overByte-clear over i (wordByte c i))
-        ∙ overByte-own over i (wordByte c i) (at + 4 * ((i - at) / 4) + 3) 0 (omega arith) (all .all ((i - at) / 4) (omega arith))
+        ∙ own-at over at 16 0 h all i (wordByte c i) h1 h2
         ∙ lay-is over false 0 (wordByte c) i refl)
 
 -- ---- a run
 
 -- one block more, over the row that the pixel's bytes make
-pub lay-turn : (over : List ℕ) (g : Bool) (a c0 c1 c2 : ℕ) {c : ℕ} {r l l₀ : List ℕ} {i : ℕ} → Part l l₀ (anew (layByte over g a (fillByte c0 c1 c2))) 0 i → Bytes c c0 c1 c2 255
-    → Part r l (anew (layByte over g a (wordByte c))) i (i + 64) → Part r l₀ (anew (layByte over g a (fillByte c0 c1 c2))) 0 (i + 64)
+pub lay-turn : (over : List ℕ) (g : Bool) (a c0 c1 c2 : ℕ) {c : ℕ} {r l l₀ : List ℕ} {i : ℕ}
+    → Front l l₀ (anew (layByte over g a (solidByte c0 c1 c2))) i → length l₀ ≡ length over → 64 ≤ length over - i
+    → Bytes c c0 c1 c2 255 → Part r l (anew (layByte over g a (wordByte c))) i (i + 64)
+    → Front r l₀ (anew (layByte over g a (solidByte c0 c1 c2))) (i + 64)
 unfolding layByte
-lay-turn over g a c0 c1 c2 {c} {i = i} p b q =
-    part-turn 64 p (omega arith) (part-cong q (λ j h1 h2. ap (overByte over g a j) (wordByte-is c c0 c1 c2 255 j b)))
+lay-turn over g a c0 c1 c2 {c} p e h b q =
+    block-turn p e h (part-cong q (λ j h1 h2. ap (overByte over g a j) (wordByte-is c c0 c1 c2 255 j b)))
 
 -- the blocks, and then the rest filled and blended
-pub lay-each : (over : List ℕ) (g : Bool) (a : ℕ) {f : ℕ → ℕ} {r k l l₀ : List ℕ} {b : ℕ} → Front l l₀ (anew (layByte over g a f)) b → Part k l (anew f) b (length l)
+pub lay-each : (over : List ℕ) (g : Bool) (a : ℕ) {f : ℕ → ℕ} {r k l l₀ : List ℕ} {b : ℕ}
+    → Front l l₀ (anew (layByte over g a f)) b → Part k l (anew f) b (length l)
     → Part r k (overByte over g a) b (length k) → r ≡ each (overByte over g a) (tab (length l₀) f)
 unfolding layByte
-lay-each over g a {f} {r} {k} {l} {l₀} {b} p q s = is-each _ r (overByte over g a) (s .long ∙ q .long ∙ p .part .long ∙ sym (length-tab (length l₀) f))
-    (λ i h. let n : i < length l₀ = omega (arith, length-tab (length l₀) f) in rw (getD-tab (length l₀) f i n) (⊎-elim
-    (λ (lt : i < b). s .low i lt ∙ q .low i lt ∙ p .part .new i (omega arith) lt)
-    (λ (ge : b ≤ i). s .new i ge (omega (arith, q .long, p .part .long)) ∙ ap (overByte over g a i) (q .new i ge (omega (arith, p .part .long))))
-    (split i b)))
+lay-each over g a {f} {r} {k} {l} {l₀} p q s =
+    let n = length l₀ in
+    let t = part-over q (part-to s (q .long)) in
+    is-each _ r (overByte over g a) (t .long ∙ p .part .long ∙ sym (length-tab n f))
+    (λ i h. let lt : i < n = omega (arith, length-tab n f) in rw (getD-tab n f i lt) (whole p t i lt))

@@ -1,4 +1,5 @@
--- The laws of the crate; `OverLaws` and `RowLaws` are for the crates above. Assumes nothing.
+-- The laws of the crate; `OverLaws` and `RowLaws` are for the crates above, `Unique` is that of one
+-- outcome. Assumes nothing.
 pub mod OverLaws
 pub mod RowLaws
 mod PartLaws
@@ -7,3 +8,4 @@ mod PixelLaws
 mod OverParts
 mod RowParts
 mod GroundLaws
+pub mod Unique

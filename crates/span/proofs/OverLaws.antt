@@ -41,18 +41,21 @@ module _ (over : List ℕ) (global : Bool) (alpha : ℕ) where
 module _ (over : List ℕ) where
   pub overByte-clear : (i p : ℕ) → overByte over true 0 i p ≡ p
   overByte-clear i p = ⊎-elim
-      (λ (lt : i % 4 < 3). overByte-channel over true 0 i p (4 * (i / 4) + 3) lt (omega arith) ∙ blendOf-clear (getD over i 0) p)
+      (λ (lt : i % 4 < 3). overByte-channel over true 0 i p (4 * (i / 4) + 3) lt (omega arith)
+      ∙ blendOf-clear (getD over i 0) p)
       (λ (ge : 3 ≤ i % 4). overByte-alpha over true 0 i p (omega arith))
       (split (i % 4) 3)
 
   pub overByte-opaque : (i p : ℕ) → i % 4 < 3 → overByte over true 255 i p ≡ getD over i 0
-  overByte-opaque i p lt = overByte-channel over true 255 i p (4 * (i / 4) + 3) lt (omega arith) ∙ blendOf-opaque (getD over i 0) p
+  overByte-opaque i p lt =
+      overByte-channel over true 255 i p (4 * (i / 4) + 3) lt (omega arith) ∙ blendOf-opaque (getD over i 0) p
 
   -- a run at the alpha 0
   pub each-overByte-clear : (alpha : ℕ) (l : List ℕ) → alpha ≡ 0 → l ≡ each (overByte over true alpha) l
   each-overByte-clear alpha l e = rw e (each-id (overByte over true 0) l overByte-clear)
 
   -- a pixel whose own alpha is a
-  pub overByte-own : (i p q a : ℕ) → q ≡ 4 * (i / 4) + 3 → getD over q 0 ≡ a → overByte over true a i p ≡ overByte over false 0 i p
+  pub overByte-own : (i p q a : ℕ) → q ≡ 4 * (i / 4) + 3 → getD over q 0 ≡ a
+      → overByte over true a i p ≡ overByte over false 0 i p
   overByte-own i p q a e h = overByte-cong over true a false 0 i p
       (λ lt. overByte-channel over true a i p q lt e ∙ rw (← h) (sym (overByte-channel over false 0 i p q lt e)))

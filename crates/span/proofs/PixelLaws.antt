@@ -1,16 +1,16 @@
 -- Laws of pixels as words: what bytes they hold, joined, halved and stored. Assumes nothing.
-use mathlib.Core.Path.{_≡_, sym, ap, _∙_}
+use mathlib.Core.Path.{_≡_, refl, sym, ap, _∙_}
 use mathlib.Core.Logic.{⊎-elim}
-use mathlib.Core.List.{List}
-use Prim.Native.Nat.{ℕ, zero, suc, _+_, _-_, _*_, _/_, _%_, _≤_, _<_}
+use mathlib.Core.List.{List, [], _∷_}
+use Prim.Native.Nat.{ℕ, _+_, _-_, _*_, _/_, _%_, _≤_, _<_}
 use native.Mathlib.Omega.{arith}
 use lib.ListN.{getD}
 use Rattle.lists.proofs.Choice.{parity}
 use Rattle.lists.proofs.Digits.{mod-of}
 use Rattle.span.specs.Span.{pixelByte, wordByte, PaletteOf}
-use Rattle.span.specs.Lanes.{Lanes, byParity, Bytes, PixelIs, HalfIs, storeByte}
+use Rattle.span.specs.Engine.Lanes.{Lanes, byParity, Bytes, PixelIs, HalfIs, storeByte}
 use Rattle.span.proofs.LaneLaws.{byParity-even, byParity-odd, storeByte-even, storeByte-odd, by-words}
-use Rattle.span.proofs.RowLaws.{pixelByte-at}
+use Rattle.span.proofs.RowLaws.{by-place, pixelByte-at}
 
 -- ---- a word's bytes
 
@@ -18,15 +18,13 @@ pub wordByte-is : (v b0 b1 b2 b3 i : ℕ) → Bytes v b0 b1 b2 b3 → wordByte v
 wordByte-is v b0 b1 b2 b3 i b = rw (b .p0, b .p1, b .p2, b .p3)
 
 -- the four values of f from a multiple of four on
-pub pixelByte-is : (f : ℕ → ℕ) (at i : ℕ) → at % 4 ≡ 0 → at ≤ i → i < at + 4 → pixelByte (f at) (f (at + 1)) (f (at + 2)) (f (at + 3)) i ≡ f i
-pixelByte-is f at i h h1 h2 = go (i - at) (omega arith) (omega arith)
-  where
-    go : (r : ℕ) → i ≡ at + r → r < 4 → pixelByte (f at) (f (at + 1)) (f (at + 2)) (f (at + 3)) i ≡ f i
-    go zero e lt = pixelByte-at _ _ _ _ i 0 (omega arith) ∙ ap f (let q : at ≡ i = omega arith in q)
-    go (suc zero) e lt = pixelByte-at _ _ _ _ i 1 (omega arith) ∙ ap f (let q : at + 1 ≡ i = omega arith in q)
-    go (suc (suc zero)) e lt = pixelByte-at _ _ _ _ i 2 (omega arith) ∙ ap f (let q : at + 2 ≡ i = omega arith in q)
-    go (suc (suc (suc zero))) e lt = pixelByte-at _ _ _ _ i 3 (omega arith) ∙ ap f (let q : at + 3 ≡ i = omega arith in q)
-    go (suc (suc (suc (suc r)))) e lt = absurd (let z : ⊥ = omega arith in z)
+pub pixelByte-is : (f : ℕ → ℕ) (at i : ℕ) → at % 4 ≡ 0 → at ≤ i → i < at + 4
+    → pixelByte (f at) (f (at + 1)) (f (at + 2)) (f (at + 3)) i ≡ f i
+pixelByte-is f at i h h1 h2 =
+    pixelByte-at _ _ _ _ i (i - at) (omega arith)
+    ∙ by-place (λ (r : ℕ). getD (f at ∷ f (at + 1) ∷ f (at + 2) ∷ f (at + 3) ∷ []) r 0 ≡ f (at + r))
+    (ap f (let q : at ≡ at + 0 = omega arith in q)) refl refl refl (i - at) (omega arith)
+    ∙ ap f (let q : at + (i - at) ≡ i = omega arith in q)
 
 pub palette-is : {r : List ℕ} (s : List ℕ) → Lanes r 16 (PixelIs s 0) → PaletteOf r s
 palette-is {r} s e = record {
@@ -35,7 +33,8 @@ palette-is {r} s e = record {
 }
 
 -- the join of two pixels has the channels of the one and the alpha of the other
-pub join-bytes : (p q w b0 b1 b2 b3 c0 c1 c2 c3 : ℕ) → w ≡ p % 16777216 + q / 16777216 * 16777216 → Bytes p b0 b1 b2 b3 → Bytes q c0 c1 c2 c3 → Bytes w b0 b1 b2 c3
+pub join-bytes : (p q w b0 b1 b2 b3 c0 c1 c2 c3 : ℕ) → w ≡ p % 16777216 + q / 16777216 * 16777216 → Bytes p b0 b1 b2 b3
+    → Bytes q c0 c1 c2 c3 → Bytes w b0 b1 b2 c3
 join-bytes p q w b0 b1 b2 b3 c0 c1 c2 c3 e b c = record {
   p0 = (let z : w % 256 ≡ p % 256 = omega arith in z) ∙ b .p0;
   p1 = (let z : w / 256 % 256 ≡ p / 256 % 256 = omega arith in z) ∙ b .p1;
@@ -49,18 +48,25 @@ join-bytes p q w b0 b1 b2 b3 c0 c1 c2 c3 e b c = record {
 module _ (p hw : List ℕ) (at : ℕ) (h : at % 4 ≡ 0) (eh : Lanes hw 32 (HalfIs p)) where
   digit-even : (c k : ℕ) → byParity k (c % 65536) (c / 65536) % 256 ≡ wordByte c (at + 2 * k)
   digit-even c k = ⊎-elim
-      (λ (z : k % 2 ≡ 0). ap (λ (n : ℕ). n % 256) (byParity-even k (c % 65536) (c / 65536) z) ∙ (let q : c % 65536 % 256 ≡ c % 256 = omega arith in q)
-      ∙ sym (pixelByte-at _ _ _ _ (at + 2 * k) 0 (mod-of (at + 2 * k) 4 (at / 4 + k / 2) 0 (omega arith) (omega arith))))
+      (λ (z : k % 2 ≡ 0). ap (λ (n : ℕ). n % 256) (byParity-even k (c % 65536) (c / 65536) z)
+      ∙ (let q : c % 65536 % 256 ≡ c % 256 = omega arith in q)
+      ∙ sym (pixelByte-at _ _ _ _ (at + 2 * k) 0
+      (mod-of (at + 2 * k) 4 (at / 4 + k / 2) 0 (omega arith) (omega arith))))
       (λ (z : k % 2 ≡ 1). ap (λ (n : ℕ). n % 256) (byParity-odd k (c % 65536) (c / 65536) z)
-      ∙ sym (pixelByte-at _ _ _ _ (at + 2 * k) 2 (mod-of (at + 2 * k) 4 (at / 4 + k / 2) 2 (omega arith) (omega arith))))
+      ∙ sym (pixelByte-at _ _ _ _ (at + 2 * k) 2
+      (mod-of (at + 2 * k) 4 (at / 4 + k / 2) 2 (omega arith) (omega arith))))
       (parity k)
 
   digit-odd : (c k : ℕ) → byParity k (c % 65536) (c / 65536) / 256 ≡ wordByte c (at + 2 * k + 1)
   digit-odd c k = ⊎-elim
-      (λ (z : k % 2 ≡ 0). ap (λ (n : ℕ). n / 256) (byParity-even k (c % 65536) (c / 65536) z) ∙ (let q : c % 65536 / 256 ≡ c / 256 % 256 = omega arith in q)
-      ∙ sym (pixelByte-at _ _ _ _ (at + 2 * k + 1) 1 (mod-of (at + 2 * k + 1) 4 (at / 4 + k / 2) 1 (omega arith) (omega arith))))
-      (λ (z : k % 2 ≡ 1). ap (λ (n : ℕ). n / 256) (byParity-odd k (c % 65536) (c / 65536) z) ∙ (let q : c / 65536 / 256 ≡ c / 16777216 = omega arith in q)
-      ∙ sym (pixelByte-at _ _ _ _ (at + 2 * k + 1) 3 (mod-of (at + 2 * k + 1) 4 (at / 4 + k / 2) 3 (omega arith) (omega arith))))
+      (λ (z : k % 2 ≡ 0). ap (λ (n : ℕ). n / 256) (byParity-even k (c % 65536) (c / 65536) z)
+      ∙ (let q : c % 65536 / 256 ≡ c / 256 % 256 = omega arith in q)
+      ∙ sym (pixelByte-at _ _ _ _ (at + 2 * k + 1) 1
+      (mod-of (at + 2 * k + 1) 4 (at / 4 + k / 2) 1 (omega arith) (omega arith))))
+      (λ (z : k % 2 ≡ 1). ap (λ (n : ℕ). n / 256) (byParity-odd k (c % 65536) (c / 65536) z)
+      ∙ (let q : c / 65536 / 256 ≡ c / 16777216 = omega arith in q)
+      ∙ sym (pixelByte-at _ _ _ _ (at + 2 * k + 1) 3
+      (mod-of (at + 2 * k + 1) 4 (at / 4 + k / 2) 3 (omega arith) (omega arith))))
       (parity k)
 
   pub halves-byte : (i : ℕ) → at ≤ i → i < at + 64 → storeByte hw at i ≡ wordByte (getD p ((i - at) / 4) 0) i

@@ -1,23 +1,29 @@
--- Laws of `pixelByte`, `colourByte` and `fillByte`. Assumes nothing.
+-- Laws of `pixelByte` and `colourByte`. Assumes nothing.
 use mathlib.Core.Path.{_≡_, ap, _∙_}
 use mathlib.Core.List.{List, [], _∷_}
-use Prim.Native.Nat.{ℕ, _+_, _*_, _/_, _%_, _<_}
+use Prim.Native.Nat.{ℕ, zero, suc, _+_, _*_, _/_, _%_, _<_}
 use native.Mathlib.Omega.{arith}
 use lib.ListN.{getD}
-use Rattle.span.specs.Span.{pixelByte, wordByte, fillByte, colourByte, PaletteOf}
+use Rattle.span.specs.Span.{pixelByte, wordByte, colourByte, PaletteOf}
 
 -- ---- one pixel over and over
 
-pub pixelByte-at : (c0 c1 c2 alpha i r : ℕ) → i % 4 ≡ r → pixelByte c0 c1 c2 alpha i ≡ getD (c0 ∷ c1 ∷ c2 ∷ alpha ∷ []) r 0
+-- what holds at each place of a pixel
+pub by-place : (P : ℕ → Type 0) → P 0 → P 1 → P 2 → P 3 → (r : ℕ) → r < 4 → P r
+by-place P p0 p1 p2 p3 zero lt = p0
+by-place P p0 p1 p2 p3 (suc zero) lt = p1
+by-place P p0 p1 p2 p3 (suc (suc zero)) lt = p2
+by-place P p0 p1 p2 p3 (suc (suc (suc zero))) lt = p3
+by-place P p0 p1 p2 p3 (suc (suc (suc (suc r)))) lt = absurd (let z : ⊥ = omega arith in z)
+
+pub pixelByte-at : (c0 c1 c2 alpha i r : ℕ) → i % 4 ≡ r
+    → pixelByte c0 c1 c2 alpha i ≡ getD (c0 ∷ c1 ∷ c2 ∷ alpha ∷ []) r 0
 unfolding pixelByte
 pixelByte-at c0 c1 c2 alpha i r e = ap (λ (n : ℕ). getD (c0 ∷ c1 ∷ c2 ∷ alpha ∷ []) n 0) e
 
 pub pixelByte-same : (c0 c1 c2 alpha i j : ℕ) → i % 4 ≡ j % 4 → pixelByte c0 c1 c2 alpha i ≡ pixelByte c0 c1 c2 alpha j
 unfolding pixelByte
-pixelByte-same c0 c1 c2 alpha i j e = ap (λ (n : ℕ). getD (c0 ∷ c1 ∷ c2 ∷ alpha ∷ []) n 0) e
-
-pub fillByte-alpha : (c0 c1 c2 i : ℕ) → i % 4 ≡ 3 → fillByte c0 c1 c2 i ≡ 255
-fillByte-alpha c0 c1 c2 i e = pixelByte-at c0 c1 c2 255 i 3 e
+pixelByte-same c0 c1 c2 alpha i j e = pixelByte-at c0 c1 c2 alpha i (j % 4) e
 
 -- ---- a line of indexes
 

@@ -1,3 +1,4 @@
--- What `src/` promises: `Span` for callers, `Lanes` for private functions. Assumes nothing.
+-- What `src/` promises: `Span` for callers; `Engine` for workers inside, which a reader may skip. Assumes
+-- nothing.
 pub mod Span
-pub mod Lanes
+pub mod Engine

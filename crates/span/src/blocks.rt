@@ -4,10 +4,8 @@ ghost use mathlib.Core.Path.{_≡_};
 ghost use mathlib.Core.Bool.{true, false};
 ghost use Prim.Native.Nat.{_+_, _%_, _≤_};
 ghost use lib.ListN.{length};
-ghost use Rattle.mix.specs.Blend.{blendOf};
 ghost use Rattle.span.specs.Span.{overByte};
-ghost use Rattle.span.specs.Lanes.{Part, Copied};
-use super::lanes::blended;
+ghost use Rattle.span.specs.Engine.Lanes.{Part, Copied};
 use super::lanes::mixed;
 use super::lanes::one_alpha;
 use super::lanes::own_alphas;
@@ -18,6 +16,9 @@ use super::pixels::all_opaque;
 use super::pixels::halves;
 use super::pixels::joined;
 use super::pixels::pixels;
+use mix::ALPHA_PLACE;
+use mix::OPAQUE;
+use mix::blend;
 
 // Each pixel at its own alpha.
 fn blend16(out: &mut [u8], over: &[u8], i: usize)
@@ -70,7 +71,7 @@ pub fn block(out: &mut [u8], over: &[u8], i: usize)
     requires { ⌜ (i + 64 ≤ length (now out)) × (i + 64 ≤ length (now over)) × (i % 4 ≡ 0) ⌝ }
     ensures { λ _. ⌜ Part (now (out .exit)) (now (out .entry)) (overByte (now (over .entry)) false 0) i (i + 64) ⌝ }
 {
-    let a = over[i + 3];
+    let a = over[i + ALPHA_PLACE];
     if a == 0 {
         let p = pixels(over, i);
         if all_clear(p) {
@@ -79,7 +80,7 @@ pub fn block(out: &mut [u8], over: &[u8], i: usize)
         blend16(out, over, i);
         return;
     }
-    if a == 255 {
+    if a == OPAQUE {
         let p = pixels(over, i);
         if all_opaque(p) {
             put16(out, p, i);
@@ -91,20 +92,14 @@ pub fn block(out: &mut [u8], over: &[u8], i: usize)
     blend16(out, over, i);
 }
 
-fn blended_byte(a: u8, over: u8, under: u8) -> u8
-    ensures { λ r. ⌜ r ≡ blendOf a over under ⌝ }
-{
-    blended(a as u16, over as u16, under as u16) as u8
-}
-
 // One pixel, at the alpha a.
 pub fn pixel(out: &mut [u8], over: &[u8], i: usize, a: u8)
     requires { ⌜ (i + 4 ≤ length (now out)) × (i + 4 ≤ length (now over)) × (i % 4 ≡ 0) ⌝ }
     ensures { λ _. ⌜ Part (now (out .exit)) (now (out .entry)) (overByte (now (over .entry)) true a) i (i + 4) ⌝ }
 {
-    let c0 = blended_byte(a, over[i], out[i]);
-    let c1 = blended_byte(a, over[i + 1], out[i + 1]);
-    let c2 = blended_byte(a, over[i + 2], out[i + 2]);
+    let c0 = blend(a, over[i], out[i]);
+    let c1 = blend(a, over[i + 1], out[i + 1]);
+    let c2 = blend(a, over[i + 2], out[i + 2]);
     out[i] = c0;
     out[i + 1] = c1;
     out[i + 2] = c2;

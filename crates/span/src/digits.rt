@@ -3,7 +3,7 @@
 // so that no caller has to know that a byte is small.
 ghost use mathlib.Core.Path.{_≡_};
 ghost use Prim.Native.Nat.{_+_, _*_, _/_, _%_, _≤_, _<_};
-ghost use Rattle.span.specs.Lanes.{Bytes};
+ghost use Rattle.span.specs.Engine.Lanes.{Bytes};
 
 pub fn low(x: u16) -> u16
     ensures { λ r. ⌜ r ≡ x % 256 ⌝ }

@@ -4,8 +4,8 @@ ghost use mathlib.Core.Path.{_≡_};
 ghost use mathlib.Core.Bool.{true, false};
 ghost use Prim.Native.Nat.{_+_, _%_, _≤_};
 ghost use lib.ListN.{length};
-ghost use Rattle.span.specs.Span.{wordByte, fillByte};
-ghost use Rattle.span.specs.Lanes.{Part, Front, anew, layByte};
+ghost use Rattle.span.specs.Span.{wordByte, solidByte};
+ghost use Rattle.span.specs.Engine.Lanes.{Part, Front, anew, layByte};
 use super::digits::pixel_of;
 use super::lanes::mixed;
 use super::lanes::one_alpha;
@@ -19,12 +19,16 @@ use super::pixels::joined;
 use super::pixels::pixels;
 use super::pixels::repeated;
 use super::rows::repeat16;
+use super::sizes::BLOCK_LEN;
+use mix::ALPHA_PLACE;
+use mix::OPAQUE;
 
 // A block over the pixel c, each pixel at its own alpha. The pixel comes as one word: sixteen of
 // them by value would be copied each time.
 fn lay16(out: &mut [u8], over: &[u8], c: u32, i: usize)
     requires { ⌜ (i + 64 ≤ length (now out)) × (i + 64 ≤ length (now over)) × (i % 4 ≡ 0) ⌝ }
-    ensures { λ _. ⌜ Part (now (out .exit)) (now (out .entry)) (anew (layByte (now (over .entry)) false 0 (wordByte c))) i (i + 64) ⌝ }
+    ensures { λ _. ⌜ Part (now (out .exit)) (now (out .entry))
+        (anew (layByte (now (over .entry)) false 0 (wordByte c))) i (i + 64) ⌝ }
 {
     let o = words(over, i);
     let p = repeated(c);
@@ -37,7 +41,8 @@ fn lay16(out: &mut [u8], over: &[u8], c: u32, i: usize)
 // The same with all pixels at one alpha.
 fn lay_flat16(out: &mut [u8], over: &[u8], c: u32, alpha: u8, i: usize)
     requires { ⌜ (i + 64 ≤ length (now out)) × (i + 64 ≤ length (now over)) × (i % 4 ≡ 0) ⌝ }
-    ensures { λ _. ⌜ Part (now (out .exit)) (now (out .entry)) (anew (layByte (now (over .entry)) true alpha (wordByte c))) i (i + 64) ⌝ }
+    ensures { λ _. ⌜ Part (now (out .exit)) (now (out .entry))
+        (anew (layByte (now (over .entry)) true alpha (wordByte c))) i (i + 64) ⌝ }
 {
     let o = words(over, i);
     let p = repeated(c);
@@ -51,9 +56,10 @@ fn lay_flat16(out: &mut [u8], over: &[u8], c: u32, alpha: u8, i: usize)
 // calls of `lay16` keep it a function of its own.
 fn lay_block(out: &mut [u8], over: &[u8], c: u32, i: usize)
     requires { ⌜ (i + 64 ≤ length (now out)) × (i + 64 ≤ length (now over)) × (i % 4 ≡ 0) ⌝ }
-    ensures { λ _. ⌜ Part (now (out .exit)) (now (out .entry)) (anew (layByte (now (over .entry)) false 0 (wordByte c))) i (i + 64) ⌝ }
+    ensures { λ _. ⌜ Part (now (out .exit)) (now (out .entry))
+        (anew (layByte (now (over .entry)) false 0 (wordByte c))) i (i + 64) ⌝ }
 {
-    let a = over[i + 3];
+    let a = over[i + ALPHA_PLACE];
     if a == 0 {
         let p = pixels(over, i);
         if all_clear(p) {
@@ -63,7 +69,7 @@ fn lay_block(out: &mut [u8], over: &[u8], c: u32, i: usize)
         lay16(out, over, c, i);
         return;
     }
-    if a == 255 {
+    if a == OPAQUE {
         let p = pixels(over, i);
         if all_opaque(p) {
             let q = repeated(c);
@@ -81,13 +87,14 @@ fn lay_block(out: &mut [u8], over: &[u8], c: u32, i: usize)
 // The blocks, each pixel at its own alpha, answering where they end.
 pub fn lay_blocks(out: &mut [u8], over: &[u8], c0: u8, c1: u8, c2: u8) -> usize
     requires { ⌜ length (now out) ≡ length (now over) ⌝ }
-    ensures { λ r. ⌜ Front (now (out .exit)) (now (out .entry)) (anew (layByte (now (over .entry)) false 0 (fillByte c0 c1 c2))) r ⌝ }
+    ensures { λ r. ⌜ Front (now (out .exit)) (now (out .entry))
+        (anew (layByte (now (over .entry)) false 0 (solidByte c0 c1 c2))) r ⌝ }
 {
-    let c = pixel_of(c0, c1, c2, 255);
+    let c = pixel_of(c0, c1, c2, OPAQUE);
     let mut i = 0;
-    while 64 <= over.len() - i {
+    while BLOCK_LEN <= over.len() - i {
         lay_block(out, over, c, i);
-        i = i + 64;
+        i = i + BLOCK_LEN;
     }
     i
 }
@@ -95,13 +102,14 @@ pub fn lay_blocks(out: &mut [u8], over: &[u8], c0: u8, c1: u8, c2: u8) -> usize
 // The blocks, all pixels at one alpha.
 pub fn lay_flat_blocks(out: &mut [u8], over: &[u8], alpha: u8, c0: u8, c1: u8, c2: u8) -> usize
     requires { ⌜ length (now out) ≡ length (now over) ⌝ }
-    ensures { λ r. ⌜ Front (now (out .exit)) (now (out .entry)) (anew (layByte (now (over .entry)) true alpha (fillByte c0 c1 c2))) r ⌝ }
+    ensures { λ r. ⌜ Front (now (out .exit)) (now (out .entry))
+        (anew (layByte (now (over .entry)) true alpha (solidByte c0 c1 c2))) r ⌝ }
 {
-    let c = pixel_of(c0, c1, c2, 255);
+    let c = pixel_of(c0, c1, c2, OPAQUE);
     let mut i = 0;
-    while 64 <= over.len() - i {
+    while BLOCK_LEN <= over.len() - i {
         lay_flat16(out, over, c, alpha, i);
-        i = i + 64;
+        i = i + BLOCK_LEN;
     }
     i
 }

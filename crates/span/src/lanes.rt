@@ -4,23 +4,15 @@
 ghost use mathlib.Core.Path.{_≡_};
 ghost use Prim.Native.Nat.{_+_, _≤_, _<_};
 ghost use lib.ListN.{length};
-ghost use Rattle.mix.specs.Blend.{blendOf};
-ghost use Rattle.span.specs.Lanes.{Part, Lanes, anew, byParity, WordIs, HighIs, SameIs, Small, MixWord, MixIs, storeByte};
+ghost use Rattle.span.specs.Engine.Lanes.{Part, Lanes, anew, byParity, WordIs, HighIs, SameIs, Small, MixWord};
+ghost use Rattle.span.specs.Engine.Lanes.{MixIs, storeByte};
 use super::digits::high;
 use super::digits::high_byte;
 use super::digits::join;
 use super::digits::low;
 use super::digits::low_byte;
 use super::digits::word_of;
-
-// One byte over another. For t at most 65,152 the quotient t / 255 is (t + 1) * 257 / 65,536, which
-// takes a product and a shift; 128 is the sum's own 127 and that 1.
-pub fn blended(a: u16, over: u16, under: u16) -> u16
-    requires { ⌜ (a < 256) × (over < 256) × (under < 256) ⌝ }
-    ensures { λ r. ⌜ (r ≡ blendOf a over under) × (r < 256) ⌝ }
-{
-    ((((a * over + (255 - a) * under + 128) as u32) * 257) / 65536) as u16
-}
+use mix::blended;
 
 // The alpha for the high byte of word k: none where that is the pixel's alpha byte, which so stays.
 fn high_alpha(a: u16, k: usize) -> u16

@@ -6,7 +6,8 @@ ghost use mathlib.Core.Bool.{true, false};
 ghost use Prim.Native.Nat.{_*_, _%_};
 ghost use lib.ListN.{length};
 ghost use Rattle.lists.specs.Tab.{tab, each};
-ghost use Rattle.span.specs.Span.{overByte, colourByte, fillByte, PaletteOf};
+ghost use Rattle.mix.specs.Pixel.{pixelLen};
+ghost use Rattle.span.specs.Span.{paletteLen, overByte, colourByte, solidByte, PaletteOf};
 
 mod blocks;
 mod digits;
@@ -15,10 +16,13 @@ mod lanes;
 mod pixels;
 mod rows;
 mod runs;
+mod sizes;
+
+use mix::OPAQUE;
 
 // Blends the run `over` over `out`, each pixel at its own alpha.
 pub fn blend(out: &mut [u8], over: &[u8])
-    requires { ⌜ (length (now out) ≡ length (now over)) × (length (now out) % 4 ≡ 0) ⌝ }
+    requires { ⌜ (length (now out) ≡ length (now over)) × (length (now out) % pixelLen ≡ 0) ⌝ }
     ensures { λ _. ⌜ now (out .exit) ≡ each (overByte (now (over .entry)) false 0) (now (out .entry)) ⌝ }
 {
     let i = runs::own_blocks(out, over);
@@ -28,24 +32,25 @@ pub fn blend(out: &mut [u8], over: &[u8])
 // Blends the run `over` over `out`, all pixels at one alpha: nothing is done at 0, and at 255 no
 // byte of a block is blended.
 pub fn blend_flat(out: &mut [u8], over: &[u8], alpha: u8)
-    requires { ⌜ (length (now out) ≡ length (now over)) × (length (now out) % 4 ≡ 0) ⌝ }
+    requires { ⌜ (length (now out) ≡ length (now over)) × (length (now out) % pixelLen ≡ 0) ⌝ }
     ensures { λ _. ⌜ now (out .exit) ≡ each (overByte (now (over .entry)) true alpha) (now (out .entry)) ⌝ }
 {
     if alpha == 0 {
         return;
     }
-    if alpha == 255 {
+    if alpha == OPAQUE {
         let i = runs::copy_blocks(out, over);
-        runs::flat_rest(out, over, i, 255);
+        runs::flat_rest(out, over, i, OPAQUE);
         return;
     }
     let i = runs::flat_blocks(out, over, alpha);
     runs::flat_rest(out, over, i, alpha);
 }
 
-// The colours of a bank as words, for `expand`.
+// The colours of a bank as words, for `expand`. They are as many as the pixels of a block, and are read
+// as one.
 pub fn palette(colours: &[u8]) -> [u32; 16]
-    requires { ⌜ length (now colours) ≡ 64 ⌝ }
+    requires { ⌜ length (now colours) ≡ paletteLen ⌝ }
     ensures { λ r. ⌜ PaletteOf r (now (colours .entry)) ⌝ }
 {
     pixels::pixels(colours, 0)
@@ -54,7 +59,7 @@ pub fn palette(colours: &[u8]) -> [u32; 16]
 // Writes a line of colour indexes as a row of pixels. The palette comes as words, made once, since
 // a pixel is then one read and one store.
 pub fn expand(line: &[u8], palette: [u32; 16], row: &mut [u8])
-    requires { ⌜ length (now row) ≡ 4 * length (now line) ⌝ }
+    requires { ⌜ length (now row) ≡ pixelLen * length (now line) ⌝ }
     ensures { λ _. ⌜ now (row .exit) ≡ tab (length (now (row .entry))) (colourByte (now (line .entry)) palette) ⌝ }
 {
     let j = rows::expand_blocks(line, &palette, row);
@@ -63,8 +68,8 @@ pub fn expand(line: &[u8], palette: [u32; 16], row: &mut [u8])
 
 // Fills a row with one opaque colour.
 pub fn fill(out: &mut [u8], c0: u8, c1: u8, c2: u8)
-    requires { ⌜ length (now out) % 4 ≡ 0 ⌝ }
-    ensures { λ _. ⌜ now (out .exit) ≡ tab (length (now (out .entry))) (fillByte c0 c1 c2) ⌝ }
+    requires { ⌜ length (now out) % pixelLen ≡ 0 ⌝ }
+    ensures { λ _. ⌜ now (out .exit) ≡ tab (length (now (out .entry))) (solidByte c0 c1 c2) ⌝ }
 {
     let i = rows::fill_blocks(out, c0, c1, c2);
     rows::fill_rest(out, i, c0, c1, c2);
@@ -73,8 +78,9 @@ pub fn fill(out: &mut [u8], c0: u8, c1: u8, c2: u8)
 // Blends the run `over` over a row of one opaque colour, each pixel at its own alpha. What `out` held
 // does not count, so that such a row is not written twice.
 pub fn lay(out: &mut [u8], over: &[u8], c0: u8, c1: u8, c2: u8)
-    requires { ⌜ (length (now out) ≡ length (now over)) × (length (now out) % 4 ≡ 0) ⌝ }
-    ensures { λ _. ⌜ now (out .exit) ≡ each (overByte (now (over .entry)) false 0) (tab (length (now (out .entry))) (fillByte c0 c1 c2)) ⌝ }
+    requires { ⌜ (length (now out) ≡ length (now over)) × (length (now out) % pixelLen ≡ 0) ⌝ }
+    ensures { λ _. ⌜ now (out .exit) ≡ each (overByte (now (over .entry)) false 0)
+        (tab (length (now (out .entry))) (solidByte c0 c1 c2)) ⌝ }
 {
     let i = grounds::lay_blocks(out, over, c0, c1, c2);
     rows::fill_rest(out, i, c0, c1, c2);
@@ -83,10 +89,11 @@ pub fn lay(out: &mut [u8], over: &[u8], c0: u8, c1: u8, c2: u8)
 
 // The same with all pixels at one alpha: at 0 and at 255 no byte of a block is blended.
 pub fn lay_flat(out: &mut [u8], over: &[u8], alpha: u8, c0: u8, c1: u8, c2: u8)
-    requires { ⌜ (length (now out) ≡ length (now over)) × (length (now out) % 4 ≡ 0) ⌝ }
-    ensures { λ _. ⌜ now (out .exit) ≡ each (overByte (now (over .entry)) true alpha) (tab (length (now (out .entry))) (fillByte c0 c1 c2)) ⌝ }
+    requires { ⌜ (length (now out) ≡ length (now over)) × (length (now out) % pixelLen ≡ 0) ⌝ }
+    ensures { λ _. ⌜ now (out .exit) ≡ each (overByte (now (over .entry)) true alpha)
+        (tab (length (now (out .entry))) (solidByte c0 c1 c2)) ⌝ }
 {
-    if alpha % 255 == 0 {
+    if alpha % OPAQUE == 0 {
         fill(out, c0, c1, c2);
         blend_flat(out, over, alpha);
         return;

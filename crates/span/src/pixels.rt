@@ -5,7 +5,7 @@ ghost use mathlib.Core.Path.{_≡_};
 ghost use mathlib.Core.Bool.{true};
 ghost use Prim.Native.Nat.{_+_, _≤_};
 ghost use lib.ListN.{length};
-ghost use Rattle.span.specs.Lanes.{Lanes, PixelIs, HalfIs, JoinIs, SameIs, HasAlpha};
+ghost use Rattle.span.specs.Engine.Lanes.{Lanes, PixelIs, HalfIs, JoinIs, SameIs, HasAlpha};
 use super::digits::channels_with;
 use super::digits::common;
 use super::digits::either;

@@ -4,8 +4,8 @@ ghost use mathlib.Core.Path.{_≡_};
 ghost use mathlib.Core.Bool.{true};
 ghost use Prim.Native.Nat.{_+_, _*_, _/_, _%_, _≤_, _<_};
 ghost use lib.ListN.{length, getD};
-ghost use Rattle.span.specs.Span.{pixelByte, wordByte, colourByte, fillByte};
-ghost use Rattle.span.specs.Lanes.{Part, Front, anew, wordsByte, Bytes, EightIs, Same};
+ghost use Rattle.span.specs.Span.{pixelByte, wordByte, colourByte, solidByte};
+ghost use Rattle.span.specs.Engine.Lanes.{Part, Front, anew, wordsByte, Bytes, EightIs, Same};
 use super::digits::byte0;
 use super::digits::byte1;
 use super::digits::byte2;
@@ -15,12 +15,17 @@ use super::digits::pixel_of;
 use super::lanes::store;
 use super::pixels::halves;
 use super::pixels::repeated;
+use super::sizes::BLOCK_LEN;
+use super::sizes::BLOCK_PIXELS;
+use super::sizes::COLOURS;
+use mix::OPAQUE;
+use mix::PIXEL_LEN;
 
 // An index into the palette.
 fn index_of(x: u8) -> usize
     ensures { λ r. ⌜ (r ≡ x % 16) × (r < 16) ⌝ }
 {
-    (x % 16) as usize
+    (x % COLOURS) as usize
 }
 
 // Writes the four bytes of a pixel at i.
@@ -56,7 +61,8 @@ fn put_words(out: &mut [u8], i: usize, c0: u32, c1: u32, c2: u32, c3: u32)
 // Four indexes from j on, as one word.
 fn four(line: &[u8], j: usize) -> u32
     requires { ⌜ j + 4 ≤ length (now line) ⌝ }
-    ensures { λ r. ⌜ Bytes r (getD (now (line .entry)) j 0) (getD (now (line .entry)) (j + 1) 0) (getD (now (line .entry)) (j + 2) 0) (getD (now (line .entry)) (j + 3) 0) ⌝ }
+    ensures { λ r. ⌜ Bytes r (getD (now (line .entry)) j 0) (getD (now (line .entry)) (j + 1) 0)
+        (getD (now (line .entry)) (j + 2) 0) (getD (now (line .entry)) (j + 3) 0) ⌝ }
 {
     pixel_of(line[j], line[j + 1], line[j + 2], line[j + 3])
 }
@@ -103,7 +109,8 @@ pub fn repeat16(row: &mut [u8], i: usize, c: u32)
 // copied for each block.
 fn expand16(line: &[u8], palette: &[u32; 16], row: &mut [u8], from: usize)
     requires { ⌜ (length (now row) ≡ 4 * length (now line)) × (from + 16 ≤ length (now line)) ⌝ }
-    ensures { λ _. ⌜ Part (now (row .exit)) (now (row .entry)) (anew (colourByte (now (line .entry)) (now (palette .entry)))) (4 * from) (4 * (from + 16)) ⌝ }
+    ensures { λ _. ⌜ Part (now (row .exit)) (now (row .entry))
+        (anew (colourByte (now (line .entry)) (now (palette .entry)))) (4 * from) (4 * (from + 16)) ⌝ }
 {
     let mut k = 0;
     while k < 4 {
@@ -112,7 +119,7 @@ fn expand16(line: &[u8], palette: &[u32; 16], row: &mut [u8], from: usize)
         let c1 = palette[index_of(line[j + 1])];
         let c2 = palette[index_of(line[j + 2])];
         let c3 = palette[index_of(line[j + 3])];
-        put_words(row, 4 * j, c0, c1, c2, c3);
+        put_words(row, PIXEL_LEN * j, c0, c1, c2, c3);
         k = k + 1;
     }
 }
@@ -121,11 +128,12 @@ fn expand16(line: &[u8], palette: &[u32; 16], row: &mut [u8], from: usize)
 // then read once.
 fn expand_block(line: &[u8], palette: &[u32; 16], row: &mut [u8], j: usize)
     requires { ⌜ (length (now row) ≡ 4 * length (now line)) × (j + 16 ≤ length (now line)) ⌝ }
-    ensures { λ _. ⌜ Part (now (row .exit)) (now (row .entry)) (anew (colourByte (now (line .entry)) (now (palette .entry)))) (4 * j) (4 * (j + 16)) ⌝ }
+    ensures { λ _. ⌜ Part (now (row .exit)) (now (row .entry))
+        (anew (colourByte (now (line .entry)) (now (palette .entry)))) (4 * j) (4 * (j + 16)) ⌝ }
 {
     if is_one(line, j) {
         let c = palette[index_of(line[j])];
-        repeat16(row, 4 * j, c);
+        repeat16(row, PIXEL_LEN * j, c);
         return;
     }
     expand16(line, palette, row, j);
@@ -134,12 +142,13 @@ fn expand_block(line: &[u8], palette: &[u32; 16], row: &mut [u8], j: usize)
 // The pixels of a line, block by block, answering where the blocks end.
 pub fn expand_blocks(line: &[u8], palette: &[u32; 16], row: &mut [u8]) -> usize
     requires { ⌜ length (now row) ≡ 4 * length (now line) ⌝ }
-    ensures { λ r. ⌜ Front (now (row .exit)) (now (row .entry)) (anew (colourByte (now (line .entry)) (now (palette .entry)))) (4 * r) ⌝ }
+    ensures { λ r. ⌜ Front (now (row .exit)) (now (row .entry))
+        (anew (colourByte (now (line .entry)) (now (palette .entry)))) (4 * r) ⌝ }
 {
     let mut j = 0;
-    while 16 <= line.len() - j {
+    while BLOCK_PIXELS <= line.len() - j {
         expand_block(line, palette, row, j);
-        j = j + 16;
+        j = j + BLOCK_PIXELS;
     }
     j
 }
@@ -147,26 +156,27 @@ pub fn expand_blocks(line: &[u8], palette: &[u32; 16], row: &mut [u8]) -> usize
 // The pixels of a line from `from` on.
 pub fn expand_rest(line: &[u8], palette: &[u32; 16], row: &mut [u8], from: usize)
     requires { ⌜ (length (now row) ≡ 4 * length (now line)) × (4 * from ≤ length (now row)) ⌝ }
-    ensures { λ _. ⌜ Part (now (row .exit)) (now (row .entry)) (anew (colourByte (now (line .entry)) (now (palette .entry)))) (4 * from) (length (now (row .entry))) ⌝ }
+    ensures { λ _. ⌜ Part (now (row .exit)) (now (row .entry))
+        (anew (colourByte (now (line .entry)) (now (palette .entry)))) (4 * from) (length (now (row .entry))) ⌝ }
 {
     let mut j = from;
     while j < line.len() {
         let c = palette[index_of(line[j])];
-        put_word(row, 4 * j, c);
+        put_word(row, PIXEL_LEN * j, c);
         j = j + 1;
     }
 }
 
 // The blocks of a filled row, answering where they end.
 pub fn fill_blocks(out: &mut [u8], c0: u8, c1: u8, c2: u8) -> usize
-    ensures { λ r. ⌜ Front (now (out .exit)) (now (out .entry)) (anew (fillByte c0 c1 c2)) r ⌝ }
+    ensures { λ r. ⌜ Front (now (out .exit)) (now (out .entry)) (anew (solidByte c0 c1 c2)) r ⌝ }
 {
-    let p = repeated(pixel_of(c0, c1, c2, 255));
+    let p = repeated(pixel_of(c0, c1, c2, OPAQUE));
     let w = halves(p);
     let mut i = 0;
-    while 64 <= out.len() - i {
+    while BLOCK_LEN <= out.len() - i {
         store(out, i, w);
-        i = i + 64;
+        i = i + BLOCK_LEN;
     }
     i
 }
@@ -174,11 +184,12 @@ pub fn fill_blocks(out: &mut [u8], c0: u8, c1: u8, c2: u8) -> usize
 // The pixels of a filled row from `from` on.
 pub fn fill_rest(out: &mut [u8], from: usize, c0: u8, c1: u8, c2: u8)
     requires { ⌜ (length (now out) % 4 ≡ 0) × (from ≤ length (now out)) × (from % 4 ≡ 0) ⌝ }
-    ensures { λ _. ⌜ Part (now (out .exit)) (now (out .entry)) (anew (fillByte c0 c1 c2)) from (length (now (out .entry))) ⌝ }
+    ensures { λ _. ⌜ Part (now (out .exit)) (now (out .entry))
+        (anew (solidByte c0 c1 c2)) from (length (now (out .entry))) ⌝ }
 {
     let mut i = from;
     while i < out.len() {
-        put4(out, i, c0, c1, c2, 255);
-        i = i + 4;
+        put4(out, i, c0, c1, c2, OPAQUE);
+        i = i + PIXEL_LEN;
     }
 }

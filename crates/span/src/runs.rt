@@ -5,11 +5,14 @@ ghost use mathlib.Core.Bool.{true, false};
 ghost use Prim.Native.Nat.{_%_, _≤_};
 ghost use lib.ListN.{length};
 ghost use Rattle.span.specs.Span.{overByte};
-ghost use Rattle.span.specs.Lanes.{Part, Front};
+ghost use Rattle.span.specs.Engine.Lanes.{Part, Front};
 use super::blocks::block;
 use super::blocks::copy16;
 use super::blocks::flat16;
 use super::blocks::pixel;
+use super::sizes::BLOCK_LEN;
+use mix::ALPHA_PLACE;
+use mix::PIXEL_LEN;
 
 // The blocks, each pixel at its own alpha.
 pub fn own_blocks(out: &mut [u8], over: &[u8]) -> usize
@@ -17,22 +20,24 @@ pub fn own_blocks(out: &mut [u8], over: &[u8]) -> usize
     ensures { λ r. ⌜ Front (now (out .exit)) (now (out .entry)) (overByte (now (over .entry)) false 0) r ⌝ }
 {
     let mut i = 0;
-    while 64 <= over.len() - i {
+    while BLOCK_LEN <= over.len() - i {
         block(out, over, i);
-        i = i + 64;
+        i = i + BLOCK_LEN;
     }
     i
 }
 
 // The pixels from `from` on, each at its own alpha.
 pub fn own_rest(out: &mut [u8], over: &[u8], from: usize)
-    requires { ⌜ (length (now out) ≡ length (now over)) × (length (now out) % 4 ≡ 0) × (from ≤ length (now out)) × (from % 4 ≡ 0) ⌝ }
-    ensures { λ _. ⌜ Part (now (out .exit)) (now (out .entry)) (overByte (now (over .entry)) false 0) from (length (now (out .entry))) ⌝ }
+    requires { ⌜ (length (now out) ≡ length (now over)) × (length (now out) % 4 ≡ 0)
+        × (from ≤ length (now out)) × (from % 4 ≡ 0) ⌝ }
+    ensures { λ _. ⌜ Part (now (out .exit)) (now (out .entry))
+        (overByte (now (over .entry)) false 0) from (length (now (out .entry))) ⌝ }
 {
     let mut i = from;
     while i < over.len() {
-        pixel(out, over, i, over[i + 3]);
-        i = i + 4;
+        pixel(out, over, i, over[i + ALPHA_PLACE]);
+        i = i + PIXEL_LEN;
     }
 }
 
@@ -42,9 +47,9 @@ pub fn flat_blocks(out: &mut [u8], over: &[u8], alpha: u8) -> usize
     ensures { λ r. ⌜ Front (now (out .exit)) (now (out .entry)) (overByte (now (over .entry)) true alpha) r ⌝ }
 {
     let mut i = 0;
-    while 64 <= over.len() - i {
+    while BLOCK_LEN <= over.len() - i {
         flat16(out, over, i, alpha);
-        i = i + 64;
+        i = i + BLOCK_LEN;
     }
     i
 }
@@ -55,21 +60,23 @@ pub fn copy_blocks(out: &mut [u8], over: &[u8]) -> usize
     ensures { λ r. ⌜ Front (now (out .exit)) (now (out .entry)) (overByte (now (over .entry)) true 255) r ⌝ }
 {
     let mut i = 0;
-    while 64 <= over.len() - i {
+    while BLOCK_LEN <= over.len() - i {
         copy16(out, over, i);
-        i = i + 64;
+        i = i + BLOCK_LEN;
     }
     i
 }
 
 // The pixels from `from` on, at one alpha.
 pub fn flat_rest(out: &mut [u8], over: &[u8], from: usize, alpha: u8)
-    requires { ⌜ (length (now out) ≡ length (now over)) × (length (now out) % 4 ≡ 0) × (from ≤ length (now out)) × (from % 4 ≡ 0) ⌝ }
-    ensures { λ _. ⌜ Part (now (out .exit)) (now (out .entry)) (overByte (now (over .entry)) true alpha) from (length (now (out .entry))) ⌝ }
+    requires { ⌜ (length (now out) ≡ length (now over)) × (length (now out) % 4 ≡ 0)
+        × (from ≤ length (now out)) × (from % 4 ≡ 0) ⌝ }
+    ensures { λ _. ⌜ Part (now (out .exit)) (now (out .entry))
+        (overByte (now (over .entry)) true alpha) from (length (now (out .entry))) ⌝ }
 {
     let mut i = from;
     while i < over.len() {
         pixel(out, over, i, alpha);
-        i = i + 4;
+        i = i + PIXEL_LEN;
     }
 }

@@ -6,7 +6,8 @@ use native.Mathlib.Omega.{arith}
 use Rattle.tables.specs.Geometry.{tablesLen, controllerLen, bankLen, kindAt, kindLen, bankAt}
 
 -- each part begins where the one before it ends
-pub no-gap : (kindAt 0 ≡ 0) × (kindAt 0 + kindLen 0 ≡ kindAt 1) × (kindAt 1 + kindLen 1 ≡ kindAt 2) × (kindAt 2 + kindLen 2 ≡ kindAt 3)
+pub no-gap : (kindAt 0 ≡ 0) × (kindAt 0 + kindLen 0 ≡ kindAt 1) × (kindAt 1 + kindLen 1 ≡ kindAt 2)
+    × (kindAt 2 + kindLen 2 ≡ kindAt 3)
     × (kindAt 3 + kindLen 3 ≡ bankLen) × (2 * bankLen ≡ controllerLen) × (8 * controllerLen ≡ tablesLen)
 unfolding kindAt kindLen
 no-gap = (refl, refl, refl, refl, refl, refl, refl)

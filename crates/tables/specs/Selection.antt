@@ -6,28 +6,30 @@ use lib.Dec.{eqb}
 use Rattle.words.specs.Fields.{activeBankOf}
 use Rattle.tables.specs.Geometry.{kindLen, bankAt}
 
--- 01 "Tables": "A selection is a number 0..63: bits 5:3 controller (001), bits 2:1 kind (0
--- instruction, 1 colour, 2 text, 3 font), bit 0 bank."
+-- 01 "Tables": "A selection is a number 0..63: bits 5:3 controller (001)"
 abbrev pub controllerOf : ℕ → ℕ
 controllerOf selection = selection / 8 % 8
 
+-- "bits 2:1 kind (0 instruction, 1 colour, 2 text, 3 font)"
 abbrev pub kindOf : ℕ → ℕ
 kindOf selection = selection / 2 % 4
 
+-- "bit 0 bank."
 abbrev pub bankOf : ℕ → ℕ
 bankOf selection = selection % 2
 
--- the kind's end, and where in the buffer its first byte stands
+-- 01 "Answers by number", 5: "the kind's end"
 abbrev pub endOf : ℕ → ℕ
 endOf selection = kindLen (kindOf selection)
 
+-- where in the buffer the first byte of the selected table stands
 abbrev pub firstByteOf : ℕ → ℕ
 firstByteOf selection = bankAt (controllerOf selection) (bankOf selection) (kindOf selection)
 
 -- 01 "Answers by number", 4: "the active word 3 names the selected bank"
 abbrev pub namedBy : List ℕ → ℕ → Bool
-namedBy w selection = eqb (activeBankOf w (kindOf selection) (controllerOf selection)) (bankOf selection)
+namedBy w selection = eqb (activeBankOf w (controllerOf selection) (kindOf selection)) (bankOf selection)
 
 -- where the bank begins that word 3 names
 abbrev pub activeAt : List ℕ → ℕ → ℕ → ℕ
-activeAt w kind g = bankAt g (activeBankOf w kind g) kind
+activeAt w g kind = bankAt g (activeBankOf w g kind) kind

@@ -20,19 +20,50 @@ const CONTROLLER_LEN: usize = 3712;
 
 const BANK_LEN: usize = 1856;
 
-// The lengths of the four kinds, for those who lend a whole bank.
-pub const LIST_LEN: usize = 768;
+// The four kinds of a bank.
+pub const LIST: u32 = 0;
 
-pub const COLOURS_LEN: usize = 64;
+pub const COLOURS: u32 = 1;
 
-pub const STRINGS_LEN: usize = 256;
+pub const STRINGS: u32 = 2;
 
-pub const FONT_LEN: usize = 768;
+pub const FONT: u32 = 3;
+
+// How many a table of each kind has, and the bytes of one.
+pub const INSTRUCTION_COUNT: usize = 48;
+
+pub const INSTRUCTION_LEN: usize = 16;
+
+pub const COLOUR_COUNT: usize = 16;
+
+pub const COLOUR_LEN: usize = 4;
+
+pub const STRING_COUNT: usize = 8;
+
+pub const STRING_LEN: usize = 32;
+
+pub const GLYPH_COUNT: usize = 96;
+
+pub const GLYPH_LEN: usize = 8;
+
+// The bytes of a whole table, for those who lend one.
+pub const LIST_LEN: usize = INSTRUCTION_COUNT * INSTRUCTION_LEN;
+
+pub const COLOURS_LEN: usize = COLOUR_COUNT * COLOUR_LEN;
+
+pub const STRINGS_LEN: usize = STRING_COUNT * STRING_LEN;
+
+pub const FONT_LEN: usize = GLYPH_COUNT * GLYPH_LEN;
 
 // Where each kind begins in its bank, and how long it is.
 const KIND_AT: [usize; 4] = [0, 768, 832, 1088];
 
-const KIND_LEN: [u32; 4] = [768, 64, 256, 768];
+const KIND_LEN: [u32; 4] = [
+    LIST_LEN as u32,
+    COLOURS_LEN as u32,
+    STRINGS_LEN as u32,
+    FONT_LEN as u32,
+];
 
 // The controller, the kind and the bank that a selection names.
 pub fn controller_of(selection: u32) -> u32
@@ -83,14 +114,14 @@ pub fn first_byte_of(selection: u32) -> usize
 pub fn is_named(w: &[u32; 52], selection: u32) -> bool
     ensures { λ r. ⌜ r ≡ namedBy (now (w .entry)) selection ⌝ }
 {
-    active_bank(w, kind_of(selection), controller_of(selection)) == bank_of(selection)
+    active_bank(w, controller_of(selection), kind_of(selection)) == bank_of(selection)
 }
 
 // Where the bank of a kind that the words name for a controller begins: all of its bytes lie in the
 // buffer.
-pub fn active_at(w: &[u32; 52], kind: u32, controller: u32) -> usize
-    requires { ⌜ (kind < 4) × (controller < 8) ⌝ }
-    ensures { λ r. ⌜ (r ≡ activeAt (now (w .entry)) kind controller) × (r + kindLen kind ≤ tablesLen) ⌝ }
+pub fn active_at(w: &[u32; 52], controller: u32, kind: u32) -> usize
+    requires { ⌜ (controller < 8) × (kind < 4) ⌝ }
+    ensures { λ r. ⌜ (r ≡ activeAt (now (w .entry)) controller kind) × (r + kindLen kind ≤ tablesLen) ⌝ }
 {
-    bank_at(controller, active_bank(w, kind, controller), kind)
+    bank_at(controller, active_bank(w, controller, kind), kind)
 }

@@ -8,35 +8,15 @@ use native.Mathlib.Omega.{arith}
 use borrow.Author.Tests.{eqb-true, eqb-false, ltb-false, eq-eqb, ne-eqb, le-ltb}
 use lib.Dec.{eqb, ltb}
 use lib.Bits.{bitAnd}
-use lib.ListN.{getD, length}
+use lib.ListN.{getD}
 use Rattle.lists.specs.Choice.{pick}
 use Rattle.lists.specs.Runs.{firstOf}
 use Rattle.lists.proofs.Choice.{same-or, split, refuses-not, lets-through, orElse-left, orElse-right, orElse-none}
 use Rattle.lists.proofs.First.{first-each, first-all}
 use Rattle.words.specs.declared.fields.Layer.{Layer}
 use Rattle.words.specs.Fields.{layerOf, widthOf, heightOf}
-use Rattle.words.specs.Check.{reservedBits, reservedAt, screenOf, placeOf, placeAt, clashOf, clashAt, clashBelow, checkOf}
-
--- a layer lies on a screen of W by H
-pub record Placed (W H : ℕ) (l : Layer) : Type 0 where
-  pub wide : 0 < l .width
-  pub tall : 0 < l .height
-  pub right : l .x + l .width ≤ W
-  pub below : l .y + l .height ≤ H
-
--- no reserved bit is set in the word i
-abbrev pub Plain : List ℕ → ℕ → Type 0
-Plain w i = bitAnd (getD w i 0) (getD reservedBits i 0) ≡ 0
-
--- 52 words that pass
-pub record Accepted (w : List ℕ) : Type 0 where
-  pub long : length w ≡ 52
-  pub plain : (i : ℕ) → i < 52 → Plain w i
-  pub wide : 0 < widthOf w
-  pub tall : 0 < heightOf w
-  pub placed : (n : ℕ) → n < 8 → layerOf w n .on ≡ true → Placed (widthOf w) (heightOf w) (layerOf w n)
-  pub apart : (n m : ℕ) → n < 8 → m < 8 → layerOf w n .on ≡ true → layerOf w m .on ≡ true
-      → layerOf w n .depth ≡ layerOf w m .depth → n ≡ m
+use Rattle.words.specs.Check.{reservedBits, reservedAt, screenOf, placeOf, placeAt, clashOf, clashAt, clashBelow}
+use Rattle.words.specs.Check.{checkOf, Plain, Placed, Accepted}
 
 -- ---- the tests, one by one
 
@@ -66,14 +46,22 @@ module _ (W H : ℕ) (l : Layer) where
       let q = refuses-not (eqb (l .height) 0) 8 _ (p .1) in
       let r = refuses-not (ltb W (l .x + l .width)) 9 _ (q .1) in
       let s = refuses-not (ltb H (l .y + l .height)) 9 _ (r .1) in
-      record { wide = not-zero _ (p .0); tall = not-zero _ (q .0); right = ltb-false _ _ (r .0); below = ltb-false _ _ (s .0) }
+      record {
+        wide = not-zero _ (p .0);
+        tall = not-zero _ (q .0);
+        right = ltb-false _ _ (r .0);
+        below = ltb-false _ _ (s .0);
+      }
 
   placed-place : (l .on ≡ true → Placed W H l) → placeOf W H l ≡ 0
   unfolding placeOf
   placed-place f = go (l .on) f
     where
       go : (t : Bool) → (t ≡ true → Placed W H l)
-          → pick t (pick (eqb (l .width) 0) 9 (pick (eqb (l .height) 0) 9 (pick (ltb W (l .x + l .width)) 10 (pick (ltb H (l .y + l .height)) 10 0)))) 0 ≡ 0
+          → pick t
+          (pick (eqb (l .width) 0) 9
+          (pick (eqb (l .height) 0) 9 (pick (ltb W (l .x + l .width)) 10 (pick (ltb H (l .y + l .height)) 10 0)))) 0
+          ≡ 0
       go true f = let p = f refl in
           goes-on _ 9 _ (above-zero _ (p .wide)) (goes-on _ 9 _ (above-zero _ (p .tall))
           (goes-on _ 10 _ (le-ltb _ _ (p .right)) (goes-on _ 10 _ (le-ltb _ _ (p .below)) refl)))
@@ -87,7 +75,8 @@ apart-clash : (l m : Layer) → (l .on ≡ true → m .on ≡ true → l .depth 
 unfolding clashOf
 apart-clash l m f = go (l .on) (m .on) f
   where
-    go : (s t : Bool) → (s ≡ true → t ≡ true → l .depth ≡ m .depth → ⊥) → pick s (pick t (pick (eqb (l .depth) (m .depth)) 11 0) 0) 0 ≡ 0
+    go : (s t : Bool) → (s ≡ true → t ≡ true → l .depth ≡ m .depth → ⊥)
+        → pick s (pick t (pick (eqb (l .depth) (m .depth)) 11 0) 0) 0 ≡ 0
     go true true f = goes-on _ 11 0 (ne-eqb _ _ (f refl refl)) refl
     go true false f = refl
     go false t f = refl
@@ -103,16 +92,15 @@ module _ (w : List ℕ) where
   unfolding clashBelow clashAt
   each-clash f = first-all 8 _ (λ n h. first-all n _ (λ m lt. f n m lt h))
 
-  pub check-accepted : length w ≡ 52 → checkOf w ≡ 0 → Accepted w
+  pub check-accepted : checkOf w ≡ 0 → Accepted w
   unfolding checkOf screenOf placeAt
-  check-accepted long e =
+  check-accepted e =
       let p = orElse-right (firstOf 52 (reservedAt w)) _ e in
       let q = orElse-right (screenOf w) _ p in
       let s = refuses-not (eqb (widthOf w) 0) 7 _ (orElse-left (screenOf w) _ p) in
       let t = refuses-not (eqb (heightOf w) 0) 7 _ (s .1) in
       let c = clash-each (orElse-right (firstOf 8 (placeAt w)) _ q) in
       record {
-        long = long;
         plain = λ i h. reserved-plain w i (first-each 52 _ (orElse-left (firstOf 52 (reservedAt w)) _ e) i h);
         wide = not-zero _ (s .0);
         tall = not-zero _ (t .0);
@@ -128,4 +116,6 @@ module _ (w : List ℕ) where
       orElse-none (firstOf 52 (reservedAt w)) _ (first-all 52 _ (λ i h. plain-reserved w i (a .plain i h)))
       (orElse-none (screenOf w) _ (goes-on _ 8 _ (above-zero _ (a .wide)) (goes-on _ 8 0 (above-zero _ (a .tall)) refl))
       (orElse-none (firstOf 8 (placeAt w)) _ (first-all 8 _ (λ n h. placed-place _ _ _ (a .placed n h)))
-      (each-clash (λ n m lt h. apart-clash _ _ (λ on om d. let q : n ≡ m = a .apart n m h (omega arith) on om d in omega arith)))))
+      (each-clash
+      (λ n m lt h. apart-clash _ _ (λ on om d. let q : n ≡ m = a .apart n m h (omega arith) on om d in
+      omega arith)))))

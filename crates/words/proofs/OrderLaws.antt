@@ -12,14 +12,15 @@ use borrow.Author.Tests.{ne-eqb}
 use lib.ListN.{length, getD, set, replicate, length-append, List·getD-append}
 use lib.Seq.{set-append-seam, append-snoc}
 use lib.Dec.{eqb}
-use Rattle.lists.specs.Choice.{pick, pickList, both}
+use Rattle.lists.specs.Choice.{pick, choose, both}
 use Rattle.lists.specs.Runs.{sumOf}
 use Rattle.lists.proofs.Choice.{same-or, both-left}
 use Rattle.lists.proofs.Steps.{Every, every-append}
 use Rattle.lists.proofs.Sum.{sum-le, sum-room, sum-swap}
 use Rattle.words.specs.declared.order.Order.{Order}
 use Rattle.words.specs.Fields.{layerOf}
-use Rattle.words.specs.Order.{here, layersAt, layersBelow, found, orderOf, packed}
+use Rattle.words.specs.Order.{here, layersAt, layersBelow, orderOf}
+use Rattle.words.specs.Engine.Packed.{found, packed}
 
 -- ---- counting
 
@@ -27,7 +28,7 @@ use Rattle.words.specs.Order.{here, layersAt, layersBelow, found, orderO
 abbrev counts : List ℕ → ℕ → ℕ → ℕ
 counts w d n = pick (here (layerOf w n) d) 1 0
 
-length-one : (t : Bool) (k : ℕ) → length (pickList t (k ∷ []) []) ≡ pick t 1 0
+length-one : (t : Bool) (k : ℕ) → length (choose t (k ∷ []) []) ≡ pick t 1 0
 length-one true k = refl
 length-one false k = refl
 
@@ -94,7 +95,8 @@ length-orderOf-le w = length-layersBelow-le w 8
 abbrev order : List ℕ → ℕ → Order
 order l k = record { layers = l; count = k }
 
-packed-more : (l : List ℕ) (n : ℕ) → length l < 8 → order (set (l ++ replicate (8 - length l) 0) (length l) n) (length l + 1) ≡ packed (l ++ (n ∷ []))
+packed-more : (l : List ℕ) (n : ℕ) → length l < 8
+    → order (set (l ++ replicate (8 - length l) 0) (length l) n) (length l + 1) ≡ packed (l ++ (n ∷ []))
 packed-more l n h =
     let q : 8 - length l ≡ suc (7 - length l) = omega arith in
     let r : length (l ++ (n ∷ [])) ≡ length l + 1 = length-append l (n ∷ []) in
@@ -104,7 +106,7 @@ packed-more l n h =
     ∙ sym (append-snoc l n (replicate (7 - length l) 0)) ∙ ap (λ (k : ℕ). l ++ (n ∷ []) ++ replicate k 0) s)
     (sym r)
 
-found-next : (w : List ℕ) (d n : ℕ) → found w d (n + 1) ≡ found w d n ++ pickList (here (layerOf w n) d) (n ∷ []) []
+found-next : (w : List ℕ) (d n : ℕ) → found w d (n + 1) ≡ found w d n ++ choose (here (layerOf w n) d) (n ∷ []) []
 unfolding layersAt
 found-next w d n = rw add-one (sym (append-assoc (layersBelow w d) (layersAt w d n) _))
 
@@ -117,7 +119,8 @@ unfolding layersBelow
 found-all w d = rw add-one
 
 length-found : (w : List ℕ) (d n : ℕ) → length (found w d n) ≡ length (layersBelow w d) + sumOf n (counts w d)
-length-found w d n = length-append (layersBelow w d) _ ∙ ap (λ (z : ℕ). length (layersBelow w d) + z) (length-layersAt w d n)
+length-found w d n =
+    length-append (layersBelow w d) _ ∙ ap (λ (z : ℕ). length (layersBelow w d) + z) (length-layersAt w d n)
 
 found-room : (w : List ℕ) (d n : ℕ) → n < 8 → here (layerOf w n) d ≡ true → length (found w d n) < 8
 found-room w d n h t =
@@ -129,7 +132,8 @@ module _ (w : List ℕ) (d n : ℕ) (o : Order) (h : n < 8) (is : o ≡ packed (
   pub order-room : here (layerOf w n) d ≡ true → o .count < 8
   order-room t = rw is (found-room w d n h t)
 
-  pub order-taken : here (layerOf w n) d ≡ true → order (set (o .layers) (o .count) n) (o .count + 1) ≡ packed (found w d (n + 1))
+  pub order-taken : here (layerOf w n) d ≡ true
+      → order (set (o .layers) (o .count) n) (o .count + 1) ≡ packed (found w d (n + 1))
   order-taken t = rw (is, found-next w d n, t) (packed-more (found w d n) n (found-room w d n h t))
 
   pub order-left : here (layerOf w n) d ≡ false → o ≡ packed (found w d (n + 1))
@@ -137,7 +141,8 @@ module _ (w : List ℕ) (d n : ℕ) (o : Order) (h : n < 8) (is : o ≡ packed (
 
 -- ---- the ends of the two loops
 
-pub order-depth : (w : List ℕ) (d n : ℕ) (o : Order) → n ≤ 8 → 8 ≤ n → o ≡ packed (found w d n) → o ≡ packed (layersBelow w (d + 1))
+pub order-depth : (w : List ℕ) (d n : ℕ) (o : Order) → n ≤ 8 → 8 ≤ n → o ≡ packed (found w d n)
+    → o ≡ packed (layersBelow w (d + 1))
 order-depth w d n o p q is = let e : n ≡ 8 = omega arith in rw (← found-all w d) (rw e at is)
 
 pub order-all : (w : List ℕ) (d : ℕ) (o : Order) → d ≤ 8 → 8 ≤ d → o ≡ packed (layersBelow w d) → o ≡ packed (orderOf w)
@@ -160,7 +165,7 @@ layersAt-enabled w d (suc k) h i lt =
     every-append (Enabled w) (layersAt w d k) _ (layersAt-enabled w d k (omega arith))
     (one (here (layerOf w k) d) (λ e. (omega arith, both-left (layerOf w k .on) _ e))) i lt
   where
-    one : (t : Bool) → (t ≡ true → Enabled w k) → Every (Enabled w) (pickList t (k ∷ []) [])
+    one : (t : Bool) → (t ≡ true → Enabled w k) → Every (Enabled w) (choose t (k ∷ []) [])
     one true f zero lt = f refl
     one true f (suc i) lt = absurd (not-suc-le-zero (le-of-suc-le-suc lt))
     one false f i lt = absurd (not-suc-le-zero lt)

@@ -36,7 +36,8 @@ pictureLenAt-le w n =
 pub pictureStart-le : (w : List ℕ) (n : ℕ) → n ≤ 8 → pictureStart w n ≤ 536608800
 unfolding pictureStart
 pictureStart-le w n h =
-    let r : sumOf n (pictureLenAt w) ≤ n * 67076100 = sum-le n 67076100 (pictureLenAt w) (λ i _. pictureLenAt-le w i) in omega arith
+    let r : sumOf n (pictureLenAt w) ≤ n * 67076100 = sum-le n 67076100 (pictureLenAt w) (λ i _. pictureLenAt-le w i) in
+    omega arith
 
 -- ---- the loop
 
@@ -61,7 +62,8 @@ starts-next w starts total n a h s e =
 abbrev pictures : List ℕ → ℕ → Pictures
 pictures l k = record { starts = l; total = k }
 
-pub starts-all : (w starts : List ℕ) (total n : ℕ) → n ≤ 8 → 8 ≤ n → StartsTo w starts total n → pictures starts total ≡ picturesOf w
+pub starts-all : (w starts : List ℕ) (total n : ℕ) → n ≤ 8 → 8 ≤ n → StartsTo w starts total n
+    → pictures starts total ≡ picturesOf w
 unfolding pictureStart picturesLen
 starts-all w starts total n p q s =
     let e : n ≡ 8 = omega arith in

@@ -1,5 +1,7 @@
 -- What is wrong with 52 words: 01 "Answers by number", 7 to 11. Assumes nothing.
-use Prim.Native.Nat.{ℕ, zero, suc, _+_, _-_}
+use Prim.Native.Nat.{ℕ, zero, suc, _+_, _-_, _≤_, _<_}
+use mathlib.Core.Path.{_≡_}
+use mathlib.Core.Bool.{true}
 use mathlib.Core.List.{List, [], _∷_, _++_, map}
 use lib.ListN.{getD}
 use lib.Dec.{ltb, eqb}
@@ -16,6 +18,7 @@ use Rattle.words.specs.Fields.{widthOf, heightOf, layerOf}
 abbrev pub layerBits : List ℕ
 layerBits = 0x0000_0703 ∷ 0x8000_00ff ∷ 0x0fff_0fff ∷ 0x0fff_0fff ∷ 0xffff_ffff ∷ 0x00ff_ffff ∷ []
 
+-- a list n times over
 abbrev pub times : ℕ → List ℕ → List ℕ
 times zero l = []
 times (suc n) l = l ++ times n l
@@ -50,6 +53,7 @@ placeOf W H l =
     (pick (ltb W (l .x + l .width)) offScreen (pick (ltb H (l .y + l .height)) offScreen done))))
     done
 
+-- of layer n on the words' own screen
 unfoldable pub placeAt : List ℕ → ℕ → ℕ
 placeAt w n = placeOf (widthOf w) (heightOf w) (layerOf w n)
 
@@ -59,9 +63,11 @@ placeAt w n = placeOf (widthOf w) (heightOf w) (layerOf w n)
 unfoldable pub clashOf : Layer → Layer → ℕ
 clashOf l m = pick (l .on) (pick (m .on) (pick (eqb (l .depth) (m .depth)) sameDepth done) done) done
 
+-- of layers n and m
 unfoldable pub clashAt : List ℕ → ℕ → ℕ → ℕ
 clashAt w n m = clashOf (layerOf w n) (layerOf w m)
 
+-- of layer n and the first of lower number that is of its depth
 unfoldable pub clashBelow : List ℕ → ℕ → ℕ
 clashBelow w n = firstOf n (clashAt w n)
 
@@ -72,3 +78,26 @@ unfoldable pub checkOf : List ℕ → ℕ
 checkOf w =
     orElse (firstOf 52 (reservedAt w))
     (orElse (screenOf w) (orElse (firstOf 8 (placeAt w)) (firstOf 8 (clashBelow w))))
+
+-- ---- words that pass
+
+-- no reserved bit is set in the word i
+abbrev pub Plain : List ℕ → ℕ → Type 0
+Plain w i = bitAnd (getD w i 0) (getD reservedBits i 0) ≡ 0
+
+-- a layer lies on a screen of W by H
+pub record Placed (W H : ℕ) (l : Layer) : Type 0 where
+  pub wide : 0 < l .width
+  pub tall : 0 < l .height
+  pub right : l .x + l .width ≤ W
+  pub below : l .y + l .height ≤ H
+
+-- none of 7 to 11: so the laws and the rows say that words are accepted. The check passes these words and
+-- no others (`check-accepted`, `accepted-check`)
+pub record Accepted (w : List ℕ) : Type 0 where
+  pub plain : (i : ℕ) → i < 52 → Plain w i
+  pub wide : 0 < widthOf w
+  pub tall : 0 < heightOf w
+  pub placed : (n : ℕ) → n < 8 → layerOf w n .on ≡ true → Placed (widthOf w) (heightOf w) (layerOf w n)
+  pub apart : (n m : ℕ) → n < 8 → m < 8 → layerOf w n .on ≡ true → layerOf w m .on ≡ true
+      → layerOf w n .depth ≡ layerOf w m .depth → n ≡ m

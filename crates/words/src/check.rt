@@ -1,9 +1,9 @@
 // What is wrong with 52 words: 01 "Answers by number", 7 to 11, in the order of a start.
 ghost use mathlib.Core.Path.{_≡_};
 ghost use Prim.Native.Nat.{_<_};
-ghost use Rattle.lists.specs.Choice.{orElse};
 ghost use Rattle.lists.specs.Runs.{firstOf};
-ghost use Rattle.words.specs.Check.{reservedAt, screenOf, placeOf, placeAt, clashOf, clashAt, clashBelow, checkOf};
+ghost use Rattle.words.specs.Check.{reservedAt, screenOf, placeOf, placeAt};
+ghost use Rattle.words.specs.Check.{clashOf, clashAt, clashBelow, checkOf};
 use crate::fields::Layer;
 use crate::fields::layer_of;
 use crate::fields::screen_height;
@@ -14,6 +14,7 @@ use answers::EMPTY_SCREEN;
 use answers::OFF_SCREEN;
 use answers::RESERVED_BIT;
 use answers::SAME_DEPTH;
+use answers::or_else;
 
 // The reserved bits of each register: those of which no field is made.
 const RESERVED: [u32; 52] = [
@@ -70,16 +71,6 @@ const RESERVED: [u32; 52] = [
     0x0000_0000,
     0xff00_0000,
 ];
-
-// Of two refusals the earlier.
-pub fn or_else(first: u8, second: u8) -> u8
-    ensures { λ r. ⌜ r ≡ orElse first second ⌝ }
-{
-    if first == DONE {
-        return second;
-    }
-    first
-}
 
 // Whether word i has a reserved bit set.
 fn reserved(w: &[u32; 52], i: usize) -> u8

@@ -1,8 +1,10 @@
 // The fields of the 52 words by name: 01 "Registers". No other file reads a field of a word; the check
 // of reserved bits alone masks whole words.
 ghost use mathlib.Core.Path.{_≡_};
-ghost use Prim.Native.Nat.{_<_};
-ghost use Rattle.words.specs.Fields.{shownOf, updateOf, widthOf, heightOf, groundsOf, activeBankOf, layerOf, lowOf, highOf};
+ghost use Prim.Native.Nat.{_+_, _*_, _<_};
+ghost use lib.ListN.{getD};
+ghost use Rattle.words.specs.Fields.{shownOf, updateOf, widthOf, heightOf, groundsOf};
+ghost use Rattle.words.specs.Fields.{activeBankOf, layerOf, lowOf, highOf};
 
 // The six words of a layer, read.
 pub struct Layer {
@@ -16,7 +18,8 @@ pub struct Layer {
     pub width: u16,
     pub height: u16,
     pub start: u32,
-    pub length: u16,
+    // How many frames the fade takes: its length.
+    pub period: u16,
     pub target: u8,
 }
 
@@ -78,23 +81,31 @@ pub fn ground_of(w: &[u32; 52]) -> Ground
 }
 
 // The bank of a kind (0 instruction, 1 colour, 2 text, 3 font) that controller g paints from.
-pub fn active_bank(w: &[u32; 52], kind: u32, g: u32) -> u32
-    requires { ⌜ (kind < 4) × (g < 8) ⌝ }
-    ensures { λ r. ⌜ r ≡ activeBankOf (now (w .entry)) kind g ⌝ }
+pub fn active_bank(w: &[u32; 52], g: u32, kind: u32) -> u32
+    requires { ⌜ (g < 8) × (kind < 4) ⌝ }
+    ensures { λ r. ⌜ r ≡ activeBankOf (now (w .entry)) g kind ⌝ }
 {
     (w[3] >> (8 * kind + g)) % 2
+}
+
+// Word j of layer n's six.
+fn layer_word(w: &[u32; 52], n: usize, j: usize) -> u32
+    requires { ⌜ (n < 8) × (j < 6) ⌝ }
+    ensures { λ r. ⌜ r ≡ getD (now (w .entry)) (4 + j + 6 * n) 0 ⌝ }
+{
+    w[4 + j + 6 * n]
 }
 
 pub fn layer_of(w: &[u32; 52], n: usize) -> Layer
     requires { ⌜ n < 8 ⌝ }
     ensures { λ r. ⌜ r ≡ layerOf (now (w .entry)) n ⌝ }
 {
-    let kind = w[4 + 6 * n];
-    let alpha = w[5 + 6 * n];
-    let place = w[6 + 6 * n];
-    let size = w[7 + 6 * n];
-    let start = w[8 + 6 * n];
-    let fade = w[9 + 6 * n];
+    let kind = layer_word(w, n, 0);
+    let alpha = layer_word(w, n, 1);
+    let place = layer_word(w, n, 2);
+    let size = layer_word(w, n, 3);
+    let start = layer_word(w, n, 4);
+    let fade = layer_word(w, n, 5);
     Layer {
         on: kind % 2 == 1,
         graphics: kind / 2 % 2 == 1,
@@ -106,7 +117,7 @@ pub fn layer_of(w: &[u32; 52], n: usize) -> Layer
         width: lower(size),
         height: upper(size),
         start: start,
-        length: (fade % 65536) as u16,
+        period: (fade % 65536) as u16,
         target: (fade / 65536 % 256) as u8,
     }
 }

@@ -1,7 +1,8 @@
 // The enabled layers in the order of painting: rising depth, and of one depth by their number.
 ghost use mathlib.Core.Path.{_≡_};
 ghost use Prim.Native.Nat.{_+_, _<_};
-ghost use Rattle.words.specs.Order.{here, layersBelow, found, orderOf, packed};
+ghost use Rattle.words.specs.Engine.Packed.{found, packed};
+ghost use Rattle.words.specs.Order.{here, layersBelow, orderOf};
 use crate::fields::Layer;
 use crate::fields::layer_of;
 

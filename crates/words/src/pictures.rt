@@ -4,6 +4,7 @@ ghost use Prim.Native.Nat.{_≤_, _<_};
 ghost use Rattle.words.specs.Pictures.{pictureLen, pictureLenAt, picturesOf};
 use crate::fields::Layer;
 use crate::fields::layer_of;
+use mix::PIXEL_LEN;
 
 pub struct Pictures {
     pub starts: [usize; 8],
@@ -20,7 +21,7 @@ fn picture_len(l: Layer) -> usize
     if l.graphics {
         return 0;
     }
-    4 * ((l.width as usize) * (l.height as usize))
+    PIXEL_LEN * ((l.width as usize) * (l.height as usize))
 }
 
 // They are at most 4 * 4095 * 4095, so that eight of them stay far below 2 ^ 32.

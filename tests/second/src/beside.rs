@@ -1,16 +1,46 @@
 //! What the tests share that run another program beside this display. It reads no section of
 //! document 01.
 
+use crate::cases::HostCase;
 use std::env;
-use std::io::Write;
+use std::ffi::OsString;
+use std::io::{Read, Write};
+use std::ops::RangeInclusive;
 use std::path::{Path, PathBuf};
-use std::process::{Command, Stdio};
+use std::process::{Child, Command, Stdio};
 use std::thread;
 
-/// The number that an environment variable holds.
-pub fn number(name: &str) -> Option<u64> {
-    let text = env::var(name).ok()?;
-    Some(text.parse().unwrap_or_else(|_| panic!("{name} is not a number: {text}")))
+/// The seed that is to be compared alone.
+pub fn seed() -> Option<u64> {
+    number("SPOONWING_SEED", env::var_os("SPOONWING_SEED")).unwrap_or_else(|told| panic!("{told}"))
+}
+
+/// The seeds to compare: the one of `SPOONWING_SEED`; or from 0 on so many that their cases, of
+/// `a_case` parts each, have the parts that the variable asks for; or as many as `cases`.
+pub fn seeds(variable: &str, a_case: usize, cases: u64) -> RangeInclusive<u64> {
+    let asked = count(variable, env::var_os(variable)).unwrap_or_else(|told| panic!("{told}"));
+    if let Some(seed) = seed() {
+        return seed..=seed;
+    }
+    let cases = asked.map_or(cases, |parts| parts.div_ceil(a_case as u64));
+    0..=cases - 1
+}
+
+/// A number from outside. What is none must not pass for "not set".
+pub fn number(name: &str, set: Option<OsString>) -> Result<Option<u64>, String> {
+    let read = |text: OsString| match text.to_str().and_then(|text| text.parse().ok()) {
+        Some(number) => Ok(number),
+        None => Err(format!("{name} is not a number: {text:?}")),
+    };
+    set.map(read).transpose()
+}
+
+/// A count from outside. With 0 a test would compare nothing and pass.
+pub fn count(name: &str, set: Option<OsString>) -> Result<Option<u64>, String> {
+    match number(name, set)? {
+        Some(0) => Err(format!("{name} is 0, and nothing would be compared")),
+        count => Ok(count),
+    }
 }
 
 /// The program that an environment variable names, from this package's folder.
@@ -42,6 +72,65 @@ pub fn run(program: &Path, words: &[&str], input: &[u8]) -> Vec<u8> {
         printed.extend(format!("({})\n", output.status).into_bytes());
     }
     printed
+}
+
+/// What the figures program prints for a script; what it is run by takes its name.
+pub fn figures(script: &[u8]) -> Vec<u8> {
+    run(&program("SPOONWING_FIGURES", "../../tools/run"), &["figures"], script)
+}
+
+/// How a host passes a buffer of no bytes.
+#[derive(Clone, Copy, Debug, PartialEq, Eq)]
+pub enum Empty {
+    /// By a pointer between guard bytes.
+    Pointer,
+    /// By a null pointer.
+    Null,
+}
+
+/// The C host of `host_calls.c`, which answers one call after another.
+pub struct Host {
+    child: Child,
+}
+
+impl Host {
+    pub fn start() -> Host {
+        let program = program("SPOONWING_HOST", "../../tools/c-host");
+        let child = Command::new(&program)
+            .stdin(Stdio::piped())
+            .stdout(Stdio::piped())
+            .spawn()
+            .unwrap_or_else(|error| panic!("{} does not run: {error}", program.display()));
+        Host { child }
+    }
+
+    /// The answer, whether a byte was touched that no call may touch, and the output.
+    pub fn call(&mut self, case: &HostCase, empty: Empty) -> (u32, bool, Vec<u8>) {
+        let buffers = [&case.image, &case.tables, &case.pictures, &case.output];
+        let mut text = case.frame.to_le_bytes().to_vec();
+        text.extend(u32::from(empty == Empty::Null).to_le_bytes());
+        for buffer in buffers {
+            text.extend((buffer.len() as u32).to_le_bytes());
+        }
+        for buffer in buffers {
+            text.extend(buffer);
+        }
+        let input = self.child.stdin.as_mut().expect("it is piped");
+        input.write_all(&text).and_then(|()| input.flush()).expect("the C host reads");
+        let mut told = vec![0; 8 + case.output.len()];
+        let output = self.child.stdout.as_mut().expect("it is piped");
+        output.read_exact(&mut told).expect("the C host answers");
+        let number = |at: usize| u32::from_le_bytes(told[at..at + 4].try_into().expect("four"));
+        (number(0), number(4) != 0, told[8..].to_vec())
+    }
+
+    /// The frame of a call that has to be painted.
+    pub fn painted(&mut self, case: &HostCase) -> Result<Vec<u8>, String> {
+        match self.call(case, Empty::Pointer) {
+            (0, false, output) => Ok(output),
+            (answer, touched, _) => Err(format!("it answers {answer}, touches others: {touched}")),
+        }
+    }
 }
 
 /// The lines of a text, each with its line feed; the last may have none.

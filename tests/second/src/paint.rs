@@ -4,7 +4,7 @@
 use crate::answers::*;
 use crate::draw::List;
 use crate::tables::{active_bytes, Kind, TABLES_LEN};
-use crate::words::{Layer, Words, LAYERS};
+use crate::words::{Words, LAYERS};
 
 /// "Blend of one channel over what is under it (house): (a·over + (255−a)·under + 127) divided by
 /// 255, rounded down."
@@ -55,64 +55,71 @@ pub fn band(
             if !layer.enabled || layer.depth != depth {
                 continue;
             }
-            if layer.graphics {
-                errors |= graphics_layer(words, n, frame, tables, out);
-            } else {
-                frame_layer(words, n, frame, pictures, out);
+            for pixel in shown(words, n, frame, tables, pictures) {
+                pixel.blend_into(out);
             }
+            errors |= missing_end(words, n, tables);
         }
     }
     errors
 }
 
-/// A frame layer's picture is "in raster order".
-fn frame_layer(words: &Words, n: usize, frame: u32, pictures: &[u8], out: &mut [u8]) {
-    let layer = words.layer(n);
-    let start = words.picture_start(n);
-    for v in 0..layer.height {
-        for u in 0..layer.width {
-            let at = (start + 4 * (layer.width * v + u)) as usize;
-            blend_pixel(words, &layer, frame, u, v, &pictures[at..at + 4], out);
+/// What a layer shows at one pixel of the screen.
+#[derive(Clone, Copy, Debug, PartialEq, Eq)]
+pub struct Shown {
+    /// The place of the pixel's first byte in the output.
+    pub at: usize,
+    pub channels: [u8; 3],
+    /// "a is the pixel's alpha, or, with global alpha set, the fade value."
+    pub alpha: u32,
+}
+
+impl Shown {
+    /// "Alpha bytes of the output are written by fill only."
+    fn blend_into(&self, out: &mut [u8]) {
+        for channel in 0..3 {
+            let under = &mut out[self.at + channel];
+            *under = blend(self.alpha, self.channels[channel].into(), (*under).into()) as u8;
         }
     }
 }
 
-/// "The colour table gives channel 0, 1, 2, alpha for an index (000)." and "No END means that
-/// painting the layer sets error bit 4n (000)."
-fn graphics_layer(words: &Words, n: usize, frame: u32, tables: &[u8], out: &mut [u8]) -> u32 {
+/// What an enabled layer shows at each of its pixels. A frame layer's picture is "in raster order";
+/// for a graphics layer "the colour table gives channel 0, 1, 2, alpha for an index (000)". "u, v
+/// count from the layer's corner".
+pub fn shown(words: &Words, n: usize, frame: u32, tables: &[u8], pictures: &[u8]) -> Vec<Shown> {
     let layer = words.layer(n);
     let list = List::read(active_bytes(words, Kind::Instruction, n, tables));
     let colours = active_bytes(words, Kind::Colour, n, tables);
     let strings = active_bytes(words, Kind::Text, n, tables);
     let font = active_bytes(words, Kind::Font, n, tables);
-    for v in 0..layer.height {
-        for u in 0..layer.width {
+    let picture = words.picture_start(n);
+    let over = |u: i64, v: i64| {
+        if layer.graphics {
             let at = 4 * list.index_at(strings, font, u, v);
-            blend_pixel(words, &layer, frame, u, v, &colours[at..at + 4], out);
+            &colours[at..at + 4]
+        } else {
+            let at = (picture + 4 * (layer.width * v + u)) as usize;
+            &pictures[at..at + 4]
         }
-    }
-    if list.ended {
-        0
-    } else {
-        1 << (4 * n)
-    }
+    };
+    let pixel = |u: i64, v: i64| {
+        let over = over(u, v);
+        let alpha = if layer.global_alpha { layer.fade.at(frame) } else { u32::from(over[3]) };
+        Shown {
+            at: (4 * (words.width() * (layer.y + v) + layer.x + u)) as usize,
+            channels: [over[0], over[1], over[2]],
+            alpha,
+        }
+    };
+    (0..layer.height)
+        .flat_map(|v| (0..layer.width).map(move |u| (u, v)))
+        .map(|(u, v)| pixel(u, v))
+        .collect()
 }
 
-/// "a is the pixel's alpha, or, with global alpha set, the fade value." and "Alpha bytes of the
-/// output are written by fill only." u and v count from the layer's corner.
-fn blend_pixel(
-    words: &Words,
-    layer: &Layer,
-    frame: u32,
-    u: i64,
-    v: i64,
-    over: &[u8],
-    out: &mut [u8],
-) {
-    let a = if layer.global_alpha { layer.fade.at(frame) } else { u32::from(over[3]) };
-    let at = (4 * (words.width() * (layer.y + v) + layer.x + u)) as usize;
-    for channel in 0..3 {
-        let under = u32::from(out[at + channel]);
-        out[at + channel] = blend(a, u32::from(over[channel]), under) as u8;
-    }
+/// "No END means that painting the layer sets error bit 4n (000)."
+fn missing_end(words: &Words, n: usize, tables: &[u8]) -> u32 {
+    let ended = List::read(active_bytes(words, Kind::Instruction, n, tables)).ended;
+    u32::from(words.layer(n).graphics && !ended) << (4 * n)
 }

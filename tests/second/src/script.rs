@@ -30,6 +30,7 @@ pub const BAND: u8 = b'B';
 pub const FRAME: u8 = b'R';
 /// Prints 32 bytes of the output from a on.
 pub const VIEW: u8 = b'V';
+const VIEW_LEN: usize = 32;
 /// Prints checksums of all blends at alpha a.
 pub const BLENDS: u8 = b'M';
 /// Prints checksums of fades of length a.
@@ -53,6 +54,11 @@ pub struct Call {
 const RECORD_LEN: usize = 20;
 
 impl Call {
+    /// Whether it writes to the output where it is not refused.
+    pub fn paints(self) -> bool {
+        [FILL, BAND, FRAME].contains(&self.letter)
+    }
+
     /// `W 00000001 00030004` and a line feed.
     pub fn text(self) -> Vec<u8> {
         let mut text = vec![self.letter];
@@ -75,6 +81,12 @@ impl Call {
 
 pub fn script_text(calls: &[Call]) -> Vec<u8> {
     calls.iter().flat_map(|call| call.text()).collect()
+}
+
+/// The records that print every byte of the output that is lent.
+pub fn views(stage: &Stage) -> Vec<Call> {
+    let record = |at| Call { letter: VIEW, a: at as u32, b: 0 };
+    (0..stage.lent.out).step_by(VIEW_LEN).map(record).collect()
 }
 
 /// How many bytes of each buffer are lent.
@@ -178,7 +190,7 @@ impl Stage {
 
     fn view(&self, first: u32) -> String {
         let byte = |i| self.out.get(first as usize + i).copied().unwrap_or(0);
-        (0..32).map(|i| format!(" {:02x}", byte(i))).collect()
+        (0..VIEW_LEN).map(|i| format!(" {:02x}", byte(i))).collect()
     }
 }
 

@@ -3,6 +3,8 @@
 use crate::words::Words;
 
 pub const TABLES_LEN: usize = 29_696;
+pub const CONTROLLER_LEN: usize = 3_712;
+pub const BANK_LEN: usize = 1_856;
 pub const INSTRUCTIONS: usize = 48;
 pub const INSTRUCTION_LEN: usize = 16;
 pub const COLOURS: usize = 16;
@@ -81,7 +83,7 @@ impl Bank {
 
     /// "controller g (which serves layer g) at 3,712·g, bank b at +1,856·b"
     pub fn start(self) -> usize {
-        3_712 * self.g + 1_856 * self.b + self.kind.offset()
+        CONTROLLER_LEN * self.g + BANK_LEN * self.b + self.kind.offset()
     }
 
     pub fn bytes(self, tables: &[u8]) -> &[u8] {

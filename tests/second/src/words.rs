@@ -12,6 +12,9 @@ pub const fn layer_word(n: usize) -> usize {
     4 + 6 * n
 }
 
+/// "depth 10:8" of a layer's first word.
+pub const DEPTH_BITS: u32 = 0x700;
+
 /// The bits that the table of registers names. "Every other bit is reserved."
 pub fn named_bits(register: usize) -> u32 {
     // "width 11:0, height 27:16", and likewise x and y.
@@ -119,6 +122,13 @@ impl Words {
             width: i64::from(field(size, 11, 0)),
             height: i64::from(field(size, 27, 16)),
         }
+    }
+
+    /// The enabled layers "in rising depth".
+    pub fn order(&self) -> Vec<usize> {
+        let mut layers: Vec<usize> = (0..LAYERS).filter(|&n| self.layer(n).enabled).collect();
+        layers.sort_by_key(|&n| self.layer(n).depth);
+        layers
     }
 
     /// "Start 7, 8, then layers 0 to 7 each 9 then 10, then 11." and "Disabled layers are looked at

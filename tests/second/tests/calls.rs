@@ -1,47 +1,55 @@
 //! The figures program beside this display: both do what the same scripts ask, and must print the
-//! same lines.
+//! same text, byte for byte. After each painting the script has every byte of the output printed.
 //!
 //!   SPOONWING_FIGURES   what runs the program when told its name, ../../tools/run unless set
 //!   SPOONWING_RECORDS   how many generated records to compare, 20,000 unless set
 //!   SPOONWING_SEED      compares the script of this one seed only, aloud
 
-use second::beside::{fewer, lines, number, program, run};
-use second::cases::{gate_script, gen_calls};
-use second::script::{print_script, script_text, Call, Stage, VIEW};
+use second::beside::{fewer, figures, lines, seed, seeds};
+use second::cases::{gate_script, gen_calls, gen_edges, EDGES, RECORDS_A_SCRIPT, SCRIPTS};
+use second::script::{print_script, script_text, views, Call, Stage};
 use std::fs;
 use std::path::Path;
 
-const RECORDS_A_SCRIPT: usize = 1_000;
-
-/// What the program prints; what it is run by takes its name.
-fn figures(script: &[u8]) -> Vec<u8> {
-    run(&program("SPOONWING_FIGURES", "../../tools/run"), &["figures"], script)
+/// The script with every byte of the output seen after each painting, and for each of its records
+/// which of the calls it is or follows.
+fn seen(calls: &[Call]) -> (Vec<u8>, Vec<usize>) {
+    let mut stage = Stage::new();
+    let (mut records, mut origins) = (Vec::new(), Vec::new());
+    for (i, &call) in calls.iter().enumerate() {
+        stage.play(call);
+        records.push(call);
+        if call.paints() {
+            records.extend(views(&stage));
+        }
+        origins.resize(records.len(), i);
+    }
+    (script_text(&records), origins)
 }
 
-/// Compares the lines of one script; a difference is told with the first record that differs and a
+/// Compares what one script prints; a difference is told with the first record that differs and a
 /// smaller script that differs too.
 fn compare(name: &str, calls: &[Call], other: &dyn Fn(&[u8]) -> Vec<u8>) -> Result<(), String> {
-    let both = |calls: &[Call]| {
-        let script = script_text(calls);
-        (lines(&print_script(&script)), lines(&other(&script)))
-    };
     let differs = |calls: &[Call]| {
-        let (ours, theirs) = both(calls);
-        ours != theirs
+        let (script, _) = seen(calls);
+        print_script(&script) != other(&script)
     };
-    let (ours, theirs) = both(calls);
-    let Some(line) = (0..ours.len().max(theirs.len())).find(|&i| ours.get(i) != theirs.get(i))
-    else {
+    let (script, origins) = seen(calls);
+    let (ours, theirs) = (print_script(&script), other(&script));
+    if ours == theirs {
         return Ok(());
-    };
-    // The bench figures come first, then a line a record. What follows the first difference is seldom
-    // needed to show it.
-    let record = (line + calls.len()).saturating_sub(ours.len());
-    let up_to_it = &calls[..calls.len().min(record + 1)];
+    }
+    let (ours, theirs) = (lines(&ours), lines(&theirs));
+    let line = (0..).find(|&i| ours.get(i) != theirs.get(i)).expect("they differ");
+    // The bench figures come first, then a line a record. What follows the first difference is
+    // seldom needed to show it.
+    let record = (line + origins.len()).saturating_sub(ours.len());
+    let first = origins.get(record).copied().unwrap_or(calls.len());
+    let up_to_it = &calls[..calls.len().min(first + 1)];
     let needed = if differs(up_to_it) { up_to_it } else { calls };
     let small = fewer(needed.to_vec(), &differs);
     let told = [
-        format!("{name} differs at record {} of {}", record + 1, calls.len()),
+        format!("{name} differs at record {} of {}", first + 1, calls.len()),
         format!("a small script that differs, of {} records:", small.len()),
         script_text(&small).escape_ascii().to_string().replace("\\n", "\n"),
         differing_lines(&small, other),
@@ -49,14 +57,9 @@ fn compare(name: &str, calls: &[Call], other: &dyn Fn(&[u8]) -> Vec<u8>) -> Resu
     Err(told.join("\n"))
 }
 
-/// The lines on which the two part, with the output's bytes seen at the end.
+/// The lines on which the two part.
 fn differing_lines(calls: &[Call], other: &dyn Fn(&[u8]) -> Vec<u8>) -> String {
-    let mut stage = Stage::new();
-    for &call in calls {
-        stage.play(call);
-    }
-    let views = (0..stage.lent.out).step_by(32).map(|at| Call { letter: VIEW, a: at as u32, b: 0 });
-    let script = script_text(&calls.iter().copied().chain(views).collect::<Vec<Call>>());
+    let (script, _) = seen(calls);
     let (ours, theirs) = (lines(&print_script(&script)), lines(&other(&script)));
     let shown = |line: Option<&Vec<u8>>| match line {
         Some(line) => line.escape_ascii().to_string(),
@@ -82,17 +85,22 @@ fn the_script_of_the_gate_is_made_here() {
 
 #[test]
 fn the_program_prints_the_generated_scripts() {
-    let records = number("SPOONWING_RECORDS").unwrap_or(20_000);
-    let mut seeds = 0..records.div_ceil(RECORDS_A_SCRIPT as u64);
-    if let Some(seed) = number("SPOONWING_SEED") {
-        seeds = seed..seed + 1;
+    if let Some(seed) = seed() {
         let script = script_text(&gen_calls(seed, RECORDS_A_SCRIPT));
         println!("it reads\n{}", String::from_utf8_lossy(&script));
         println!("we print\n{}", String::from_utf8_lossy(&print_script(&script)));
     }
-    for seed in seeds {
+    for seed in seeds("SPOONWING_RECORDS", RECORDS_A_SCRIPT, SCRIPTS) {
         let calls = gen_calls(seed, RECORDS_A_SCRIPT);
         compare(&format!("the script of seed {seed}"), &calls, &figures)
+            .unwrap_or_else(|told| panic!("{told}"));
+    }
+}
+
+#[test]
+fn the_program_prints_the_edges() {
+    for seed in 0..EDGES {
+        compare(&format!("the script of edges of seed {seed}"), &gen_edges(seed), &figures)
             .unwrap_or_else(|told| panic!("{told}"));
     }
 }

@@ -1,80 +1,175 @@
-//! What the seeded cases reach: every answer comes, and most lines paint. `--nocapture` shows the
-//! counts.
+//! What the seeded cases of the gate reach, with how often at least: every answer, kind of call,
+//! fade and order of depths. `--nocapture` shows the counts.
 
 use second::answers::*;
-use second::cases::{gate_script, gen_calls, gen_host, gen_sheet, HostCase};
+use second::cases::{gate_script, gen_calls, gen_edges, gen_host, gen_sheet, HostCase};
+use second::cases::{EDGES, HOST_CALLS, LINES_A_SHEET, RECORDS_A_SCRIPT, SCRIPTS, SHEETS};
+use second::draw::List;
 use second::host::{host_frame, image_words};
 use second::script::*;
-use second::sheet::print_sheet;
-use second::tables::TABLES_LEN;
-use second::words::LAYERS;
+use second::sheet::Sheet;
+use second::tables::{active_bytes, Kind, TABLES_LEN};
+use second::words::{Layer, Words, LAYERS};
 use std::collections::{BTreeMap, BTreeSet};
 
-const SHEETS: u64 = 50;
-const LINES: usize = 40;
+type Counts = BTreeMap<String, usize>;
 
-fn show<K: std::fmt::Debug>(title: &str, counts: &BTreeMap<K, usize>) {
+fn show(title: &str, counts: &Counts) {
     println!("{title}");
-    for (answer, count) in counts {
-        println!("  {answer:?}: {count}");
+    for (kind, count) in counts {
+        println!("  {kind}: {count}");
     }
 }
 
+fn count(counts: &mut Counts, kinds: impl IntoIterator<Item = String>) {
+    kinds.into_iter().for_each(|kind| *counts.entry(kind).or_default() += 1);
+}
+
+/// Each kind has come so often at least.
+fn assert_came(counts: &Counts, wanted: impl IntoIterator<Item = String>, least: usize) {
+    for kind in wanted {
+        let came = counts.get(&kind).copied().unwrap_or(0);
+        assert!(came >= least, "{kind} came {came} times, and {least} are asked");
+    }
+}
+
+fn answers(numbers: &[u32]) -> Vec<String> {
+    numbers.iter().map(|number| format!("answer {number}")).collect()
+}
+
+// ---- what a painted frame has
+
+/// What is painted of layers whose depths are in a band, by names.
+fn painted_kinds(
+    words: &Words,
+    frame: u32,
+    tables: &[u8],
+    low: u32,
+    high: u32,
+) -> BTreeSet<String> {
+    let mut kinds = BTreeSet::new();
+    if !words.display_on() {
+        return kinds;
+    }
+    let order = words.order().into_iter();
+    let order: Vec<usize> =
+        order.filter(|&n| (low..high).contains(&words.layer(n).depth)).collect();
+    for (i, &n) in order.iter().enumerate() {
+        let layer = words.layer(n);
+        kinds.insert(format!("layer {n} at depth {}", layer.depth));
+        kinds.extend(order[i + 1..].iter().map(|over| format!("layer {n} under layer {over}")));
+        kinds.extend(fade_kinds(&layer, frame));
+        let list = List::read(active_bytes(words, Kind::Instruction, n, tables));
+        kinds.extend((layer.graphics && !list.ended).then(|| "list without END".into()));
+        let global = layer.graphics && layer.global_alpha;
+        kinds.extend(global.then(|| "list at global alpha".into()));
+    }
+    kinds
+}
+
+/// Where in its fade a layer is that is seen at global alpha.
+fn fade_kinds(layer: &Layer, frame: u32) -> Vec<String> {
+    let e = i64::from(frame.wrapping_sub(layer.fade.start) as i32);
+    let length = i64::from(layer.fade.length);
+    let mut kinds = vec![match e {
+        _ if length == 0 => "fade of length 0",
+        _ if e < 0 => "fade before its start",
+        0 => "fade at its start",
+        _ if e < length => "fade on its way",
+        _ if e == length => "fade at its end",
+        _ => "fade past its end",
+    }];
+    let runs = length > 0 && (0..length).contains(&e);
+    kinds.extend((runs && frame < layer.fade.start).then_some("fade wrapped past 2^32"));
+    kinds.extend((length > 0 && e == i64::from(i32::MIN)).then_some("fade with e at 2^31"));
+    kinds.extend((length > 0 && e == i64::from(i32::MAX)).then_some("fade with e at 2^31 - 1"));
+    kinds.retain(|_| layer.global_alpha);
+    kinds.into_iter().map(String::from).collect()
+}
+
+const FADES: [&str; 9] = [
+    "fade of length 0",
+    "fade before its start",
+    "fade at its start",
+    "fade on its way",
+    "fade at its end",
+    "fade past its end",
+    "fade wrapped past 2^32",
+    "fade with e at 2^31",
+    "fade with e at 2^31 - 1",
+];
+
+/// Every layer at every depth, and of every two layers either one over the other.
+fn depth_kinds() -> Vec<String> {
+    let pairs = (0..LAYERS).flat_map(|n| (0..LAYERS).map(move |m| (n, m)));
+    let at = pairs.clone().map(|(n, depth)| format!("layer {n} at depth {depth}"));
+    let under = pairs.filter(|(n, m)| n != m).map(|(n, m)| format!("layer {n} under layer {m}"));
+    at.chain(under).collect()
+}
+
 #[test]
-fn sheets_reach_every_answer() {
-    let mut counts = BTreeMap::new();
+fn sheets_reach_everything() {
+    let mut counts = Counts::new();
     let mut frames = BTreeSet::new();
     for seed in 0..SHEETS {
-        let printed = print_sheet(&gen_sheet(seed, LINES));
-        for line in printed.split(|&byte| byte == b'\n').filter(|line| !line.is_empty()) {
-            *counts.entry(String::from_utf8_lossy(&line[..2]).into_owned()).or_insert(0) += 1;
-            frames.insert(line.to_vec());
+        let mut sheet = Sheet::new();
+        let text = gen_sheet(seed, LINES_A_SHEET);
+        for line in text.split(|&byte| byte == b'\n') {
+            let printed = sheet.line(line);
+            count(&mut counts, [format!("prints {}", String::from_utf8_lossy(&printed[..2]))]);
+            let display = &sheet.display;
+            if printed.starts_with(b"00") {
+                let frame = display.frame_number();
+                count(&mut counts, painted_kinds(display.active(), frame, &sheet.tables, 0, 8));
+            }
+            frames.insert(printed);
         }
     }
-    show("printed lines by answer", &counts);
+    show("lines of sheets by kind", &counts);
     println!("  different lines: {}", frames.len());
     // 3, 6, 15 and 16 cannot come: a sheet selects before it puts, and lends whole tables and whole
     // frames.
-    for answer in
-        ["00", "01", "02", "04", "05", "07", "08", "09", "0A", "0B", "0C", "0D", "0E", "FE"]
-    {
-        assert!(counts.contains_key(answer), "{answer} never came");
-    }
-    assert!(counts["00"] > SHEETS as usize * LINES / 2, "fewer than half of the lines paint");
+    let printed =
+        ["00", "01", "02", "04", "05", "07", "08", "09", "0A", "0B", "0C", "0D", "0E", "FE"];
+    assert_came(&counts, printed.map(|answer| format!("prints {answer}")), 10);
+    assert!(counts["prints 00"] > SHEETS as usize * LINES_A_SHEET / 2, "fewer than half paint");
+    assert_came(&counts, FADES.map(String::from), 10);
+    assert_came(&counts, ["list without END", "list at global alpha"].map(String::from), 100);
+    assert_came(&counts, depth_kinds(), 20);
 }
 
 #[test]
-fn host_cases_reach_every_answer() {
-    let mut counts = BTreeMap::new();
-    for seed in 0..1_000 {
-        let mut case = gen_host(seed);
-        let answer =
-            host_frame(&case.image, case.frame, &case.tables, &case.pictures, &mut case.output);
-        *counts.entry(answer).or_insert(0) += 1;
+fn host_calls_reach_everything() {
+    let mut counts = Counts::new();
+    for seed in 0..HOST_CALLS {
+        let case = gen_host(seed);
+        let HostCase { image, frame, tables, pictures, output } = &case;
+        let answer = host_frame(image, *frame, tables, pictures, &mut output.clone());
+        count(&mut counts, [format!("answer {answer}")]);
+        if answer == DONE {
+            let words = image_words(image).expect("it is whole");
+            count(&mut counts, painted_kinds(&words, *frame, tables, 0, 8));
+            count(&mut counts, block_kinds(&case));
+        }
     }
-    show("host calls by answer", &counts);
-    let reachable = BTreeSet::from([
-        DONE,
-        WRONG_TABLES,
-        7,
-        8,
-        9,
-        10,
-        11,
-        WRONG_OUTPUT,
-        WRONG_PICTURES,
-        WRONG_IMAGE,
-    ]);
-    assert_eq!(counts.into_keys().collect::<BTreeSet<u32>>(), reachable);
+    show("host calls by kind", &counts);
+    let refusals = [6, 7, 8, 9, 10, 11, 13, 14, 16];
+    assert_came(&counts, answers(&refusals), 50);
+    assert_came(&counts, answers(&[DONE]), HOST_CALLS as usize / 2);
+    assert_came(&counts, FADES.map(String::from), 20);
+    assert_came(&counts, ["list without END", "list at global alpha"].map(String::from), 200);
+    assert_came(&counts, depth_kinds(), 50);
+    let looks = ["at one alpha", "clear", "opaque", "mixed"];
+    let blocks = ["lowest", "other"].map(|place| looks.map(|look| format!("{place}, {look}")));
+    assert_came(&counts, blocks.concat(), 20);
 }
 
-/// How the blocks of sixteen pixels of a case's pictures come: in the lowest layer over whole lines,
-/// which lie on the background, and in the others; at one alpha, or clear, opaque or mixed.
+/// How the blocks of sixteen pixels of a case's pictures come: in the lowest layer over whole
+/// lines, which lie on the background, and in the others; at one alpha, or clear, opaque or mixed.
 fn block_kinds(case: &HostCase) -> BTreeSet<String> {
     let words = image_words(&case.image).expect("only painted cases are asked");
-    let mut layers: Vec<usize> = (0..LAYERS).filter(|&n| words.layer(n).enabled).collect();
-    layers.sort_by_key(|&n| words.layer(n).depth);
     let mut kinds = BTreeSet::new();
+    let layers = if words.display_on() { words.order() } else { Vec::new() };
     for (i, &n) in layers.iter().enumerate() {
         let layer = words.layer(n);
         if layer.graphics {
@@ -99,30 +194,6 @@ fn block_kinds(case: &HostCase) -> BTreeSet<String> {
     kinds
 }
 
-#[test]
-fn host_cases_reach_every_kind_of_block() {
-    let mut counts = BTreeMap::new();
-    for case in (0..1_000).map(gen_host) {
-        let painted = host_frame(
-            &case.image,
-            case.frame,
-            &case.tables,
-            &case.pictures,
-            &mut case.output.clone(),
-        );
-        if painted == DONE && image_words(&case.image).is_some_and(|words| words.display_on()) {
-            block_kinds(&case).into_iter().for_each(|kind| *counts.entry(kind).or_insert(0) += 1);
-        }
-    }
-    show("host calls by kind of block", &counts);
-    for place in ["lowest", "other"] {
-        for look in ["at one alpha", "clear", "opaque", "mixed"] {
-            let kind = format!("{place}, {look}");
-            assert!(counts.get(&kind) > Some(&5), "{kind} came too seldom");
-        }
-    }
-}
-
 /// What a record of a script does, by names.
 fn kinds(before: &Stage, call: Call, answer: u32, after: &Stage) -> Vec<String> {
     let letter = call.letter as char;
@@ -130,19 +201,8 @@ fn kinds(before: &Stage, call: Call, answer: u32, after: &Stage) -> Vec<String> 
     if CALLS.contains(&call.letter) {
         kinds.push(format!("answer {answer}"));
     }
-    let lent = &before.out[..before.lent.out];
-    let painted = answer == DONE && [FILL, BAND, FRAME].contains(&call.letter);
-    if painted && lent.chunks(4).any(|pixel| pixel[3] != 255) {
-        kinds.push(format!("{letter} over a dirty buffer"));
-    }
-    if painted && !before.display.active().display_on() {
-        kinds.push(format!("{letter} with the display off"));
-    }
-    if painted && before.out != after.out {
-        kinds.push(format!("{letter} changes the output"));
-    }
-    if painted && call.letter != FILL && (0..LAYERS).any(|n| fades(before, n)) {
-        kinds.push(format!("{letter} in a fade"));
+    if answer == DONE && call.paints() {
+        kinds.extend(painting_kinds(before, call, after));
     }
     let errors = (before.display.errors(), after.display.errors());
     kinds.extend(match call.letter {
@@ -162,12 +222,25 @@ fn kinds(before: &Stage, call: Call, answer: u32, after: &Stage) -> Vec<String> 
     kinds
 }
 
-/// Whether a layer is seen with an alpha on the way to its target.
-fn fades(stage: &Stage, n: usize) -> bool {
-    let layer = stage.display.active().layer(n);
-    let alpha = layer.fade.at(stage.display.frame_number());
-    let on_the_way = alpha != layer.fade.value && alpha != layer.fade.target;
-    stage.display.active().display_on() && layer.enabled && layer.global_alpha && on_the_way
+/// What a fill, a band or a frame does that is not refused.
+fn painting_kinds(before: &Stage, call: Call, after: &Stage) -> Vec<String> {
+    let letter = call.letter as char;
+    let (active, frame) = (before.display.active(), before.display.frame_number());
+    let (low, high) = match call.letter {
+        FILL => (0, 0),
+        BAND => (call.a, call.b),
+        _ => (0, 8),
+    };
+    let mut kinds = painted_kinds(active, frame, &before.tables, low, high);
+    let lent = &before.out[..before.lent.out];
+    let so = [
+        ("over a dirty buffer", lent.chunks(4).any(|pixel| pixel[3] != 255)),
+        ("with the display off", !active.display_on()),
+        ("changes the output", before.out != after.out),
+        ("in a fade", kinds.contains("fade on its way")),
+    ];
+    kinds.extend(so.iter().filter(|(_, is_so)| *is_so).map(|(kind, _)| format!("{letter} {kind}")));
+    kinds.into_iter().collect()
 }
 
 fn band_kind(low: u32, high: u32, answer: u32) -> String {
@@ -197,14 +270,12 @@ fn wrong_lengths(before: &Stage, call: Call, answer: u32) -> Option<String> {
 }
 
 /// How often each kind comes in a script.
-fn count_kinds(calls: &[Call], counts: &mut BTreeMap<String, usize>) {
+fn count_kinds(calls: &[Call], counts: &mut Counts) {
     let mut stage = Stage::new();
     for &call in calls {
         let before = stage.clone();
         let answer = stage.play(call);
-        for kind in kinds(&before, call, answer, &stage) {
-            *counts.entry(kind).or_insert(0) += 1;
-        }
+        count(counts, kinds(&before, call, answer, &stage));
     }
 }
 
@@ -240,34 +311,37 @@ fn wanted_kinds() -> Vec<String> {
 }
 
 #[test]
-fn scripts_reach_every_kind() {
-    let mut counts = BTreeMap::new();
-    for seed in 0..60 {
-        count_kinds(&gen_calls(seed, 1_000), &mut counts);
+fn scripts_reach_everything() {
+    let mut counts = Counts::new();
+    for seed in 0..SCRIPTS {
+        count_kinds(&gen_calls(seed, RECORDS_A_SCRIPT), &mut counts);
+    }
+    for seed in 0..EDGES {
+        count_kinds(&gen_edges(seed), &mut counts);
     }
     show("records of scripts by kind", &counts);
     let calls = ["P answers 6", "F answers 13", "B answers 13", "B answers 6", "B answers 14"];
     let lengths = calls.map(|call| [format!("{call}, too short"), format!("{call}, too long")]);
-    for kind in wanted_kinds().into_iter().chain(lengths.concat()) {
-        assert!(counts.contains_key(&kind), "{kind} never came");
-    }
+    assert_came(&counts, wanted_kinds(), 10);
+    assert_came(&counts, lengths.concat(), 5);
+    assert_came(&counts, FADES.map(String::from), 10);
+    assert_came(&counts, ["list without END", "list at global alpha"].map(String::from), 100);
+    assert_came(&counts, depth_kinds(), 10);
 }
 
 #[test]
 fn the_script_of_the_gate_has_every_kind() {
-    let mut counts = BTreeMap::new();
+    let mut counts = Counts::new();
     count_kinds(&gate_script(), &mut counts);
     show("records of the gate's script by kind", &counts);
-    for kind in wanted_kinds() {
-        assert!(counts.contains_key(&kind), "{kind} never came");
-    }
+    assert_came(&counts, wanted_kinds(), 1);
 }
 
 /// A case's number is its seed: the same seed gives the same case, another one another.
 #[test]
 fn a_seed_is_a_case() {
-    assert_eq!(gen_sheet(7, LINES), gen_sheet(7, LINES));
-    assert_ne!(gen_sheet(7, LINES), gen_sheet(8, LINES));
+    assert_eq!(gen_sheet(7, 40), gen_sheet(7, 40));
+    assert_ne!(gen_sheet(7, 40), gen_sheet(8, 40));
     assert_eq!(format!("{:?}", gen_host(7)), format!("{:?}", gen_host(7)));
     assert_eq!(format!("{:?}", gen_calls(7, 100)), format!("{:?}", gen_calls(7, 100)));
 }

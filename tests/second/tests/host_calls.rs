@@ -5,50 +5,13 @@
 //!   SPOONWING_CALLS   how many generated calls to compare, 4,000 unless set
 //!   SPOONWING_SEED    compares the call of this one seed only, aloud
 
-use second::beside::{number, program};
-use second::cases::{gen_host, word_images, HostCase};
+use second::answers::*;
+use second::beside::{seed, seeds, Empty, Host};
+use second::cases::{gen_host, word_images, HostCase, HOST_CALLS};
 use second::host::{host_frame, image_words};
-use second::tables::TABLES_LEN;
+use second::tables::{BANK_LEN, CONTROLLER_LEN, TABLES_LEN};
 use second::words::{layer_word, LAYERS};
 use std::collections::BTreeMap;
-use std::io::{Read, Write};
-use std::process::{Child, Command, Stdio};
-
-/// The C host, which answers one call after another.
-struct Host {
-    child: Child,
-}
-
-impl Host {
-    fn start() -> Host {
-        let program = program("SPOONWING_HOST", "../../tools/c-host");
-        let child = Command::new(&program)
-            .stdin(Stdio::piped())
-            .stdout(Stdio::piped())
-            .spawn()
-            .unwrap_or_else(|error| panic!("{} does not run: {error}", program.display()));
-        Host { child }
-    }
-
-    /// The answer, whether a byte was touched that no call may touch, and the output.
-    fn call(&mut self, case: &HostCase) -> (u32, bool, Vec<u8>) {
-        let buffers = [&case.image, &case.tables, &case.pictures, &case.output];
-        let mut text = case.frame.to_le_bytes().to_vec();
-        for buffer in buffers {
-            text.extend((buffer.len() as u32).to_le_bytes());
-        }
-        for buffer in buffers {
-            text.extend(buffer);
-        }
-        let input = self.child.stdin.as_mut().expect("it is piped");
-        input.write_all(&text).and_then(|()| input.flush()).expect("the C host reads");
-        let mut told = vec![0; 8 + case.output.len()];
-        let output = self.child.stdout.as_mut().expect("it is piped");
-        output.read_exact(&mut told).expect("the C host answers");
-        let number = |at: usize| u32::from_le_bytes(told[at..at + 4].try_into().expect("four"));
-        (number(0), number(4) != 0, told[8..].to_vec())
-    }
-}
 
 /// What an entry tells of a call, as `Host::call` does.
 type Entry<'a> = &'a mut dyn FnMut(&HostCase) -> (u32, bool, Vec<u8>);
@@ -92,7 +55,7 @@ fn smaller(mut case: HostCase, entry: Entry) -> HostCase {
         };
     }
     zero_runs(&mut case, |case| &mut case.image, 4, entry);
-    for run in [3_712, 1_856, 64, 16, 4] {
+    for run in [CONTROLLER_LEN, BANK_LEN, 64, 16, 4] {
         zero_runs(&mut case, |case| &mut case.tables, run, entry);
     }
     case
@@ -149,19 +112,24 @@ fn shown(case: &HostCase) -> String {
     .join("\n")
 }
 
+/// A call with an image of the sweep, whose screens have one pixel at most.
+fn swept_call(image: Vec<u8>) -> HostCase {
+    HostCase {
+        image,
+        frame: 0,
+        tables: vec![0; TABLES_LEN],
+        pictures: Vec::new(),
+        output: vec![1, 2, 3, 4],
+    }
+}
+
 #[test]
 fn the_entry_answers_the_swept_images() {
     // Every bit of an image that passes the other way round, and every two faults of it.
     let mut host = Host::start();
     for (i, image) in word_images().into_iter().enumerate() {
-        let case = HostCase {
-            image,
-            frame: 0,
-            tables: vec![0; TABLES_LEN],
-            pictures: Vec::new(),
-            output: vec![1, 2, 3, 4],
-        };
-        if let Err(told) = compare(&mut |case| host.call(case), &case) {
+        let case = swept_call(image);
+        if let Err(told) = compare(&mut |case| host.call(case, Empty::Pointer), &case) {
             panic!("image {i} of the sweep: {told}\n{}", shown(&case));
         }
     }
@@ -170,19 +138,50 @@ fn the_entry_answers_the_swept_images() {
 #[test]
 fn the_entry_answers_the_generated_calls() {
     let mut host = Host::start();
-    let mut seeds = 0..number("SPOONWING_CALLS").unwrap_or(4_000);
-    if let Some(seed) = number("SPOONWING_SEED") {
-        seeds = seed..seed + 1;
+    if let Some(seed) = seed() {
         println!("{}", shown(&gen_host(seed)));
     }
     let mut counts = BTreeMap::new();
-    for seed in seeds {
-        match compare_generated(&mut |case| host.call(case), seed) {
+    for seed in seeds("SPOONWING_CALLS", 1, HOST_CALLS) {
+        let empty = if seed % 2 == 0 { Empty::Pointer } else { Empty::Null };
+        match compare_generated(&mut |case| host.call(case, empty), seed) {
             Ok(answer) => *counts.entry(answer).or_insert(0) += 1,
             Err(told) => panic!("{told}"),
         }
     }
     println!("by answer: {counts:?}");
+}
+
+/// A host that has no bytes to lend may pass NULL: for any of the four buffers, where that is right
+/// and where it is refused. Whoever reads or writes there is ended by the system.
+#[test]
+fn the_entry_takes_null_for_no_bytes() {
+    let mut host = Host::start();
+    let painted = swept_call(word_images().swap_remove(0));
+    let mut framed = painted.clone();
+    framed.image[4 * layer_word(0)] &= !0b10;
+    framed.pictures = vec![9; 4];
+    let mut counts = BTreeMap::new();
+    for (case, emptied) in
+        [&painted, &framed].into_iter().flat_map(|case| (0..16).map(move |i| (case, i)))
+    {
+        let mut case = case.clone();
+        let HostCase { image, tables, pictures, output, .. } = &mut case;
+        for (i, buffer) in [image, tables, pictures, output].into_iter().enumerate() {
+            if emptied >> i & 1 == 1 {
+                buffer.clear();
+            }
+        }
+        match compare(&mut |case| host.call(case, Empty::Null), &case) {
+            Ok(answer) => *counts.entry(answer).or_insert(0) += 1,
+            Err(told) => panic!("with NULL for the buffers {emptied:04b}: {told}"),
+        }
+    }
+    // Half of all have no image; then no output, no tables, no pictures are asked for in this
+    // order.
+    let expected =
+        [(DONE, 3), (WRONG_TABLES, 4), (WRONG_OUTPUT, 8), (WRONG_PICTURES, 1), (WRONG_IMAGE, 16)];
+    assert_eq!(counts, BTreeMap::from(expected));
 }
 
 /// The comparison itself, on an entry that is known to be wrong: its fades stand still at frame 0.

@@ -4,13 +4,12 @@
 //!   SPOONWING_LINES   how many generated lines to compare, 2,000 unless set
 //!   SPOONWING_SEED    compares the sheet of this one seed only, aloud
 
-use second::beside::{fewer, lines, number, program, run};
+use second::beside::{fewer, lines, program, run, seed, seeds};
 use second::cases::{byte_sheet, drawing_sheet, gen_sheet, line_text, number_sheet, word_sheet};
+use second::cases::{LINES_A_SHEET, SHEETS};
 use second::sheet::{print_sheet, Line};
 use std::fs;
 use std::path::Path;
-
-const LINES_A_SHEET: usize = 40;
 
 /// Sheets whose form is the point. A sheet on which the two have ever differed gets a row here.
 const FIXED: [(&str, &[u8]); 11] = [
@@ -125,15 +124,12 @@ fn the_program_prints_the_sweeps() {
 fn the_program_prints_the_generated_sheets() {
     let program = program("SPOONWING_SHEET", "../../target/bin/sheet");
     let other = |sheet: &[u8]| run(&program, &[], sheet);
-    let lines = number("SPOONWING_LINES").unwrap_or(2_000);
-    let mut seeds = 0..lines.div_ceil(LINES_A_SHEET as u64);
-    if let Some(seed) = number("SPOONWING_SEED") {
-        seeds = seed..seed + 1;
+    if let Some(seed) = seed() {
         let sheet = gen_sheet(seed, LINES_A_SHEET);
         println!("it reads\n{}", sheet.escape_ascii().to_string().replace("\\n", "\n"));
         println!("we print\n{}", String::from_utf8_lossy(&print_sheet(&sheet)));
     }
-    for seed in seeds {
+    for seed in seeds("SPOONWING_LINES", LINES_A_SHEET, SHEETS) {
         compare_generated(seed, &other).unwrap_or_else(|told| panic!("{told}"));
     }
 }

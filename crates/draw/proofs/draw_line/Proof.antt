@@ -7,6 +7,7 @@ use lib.ListN.{length}
 use borrow.Author.Needs.{needs}
 use Rattle.lists.specs.Tab.{tab}
 use Rattle.lists.proofs.Tab.{length-tab, length-each}
+use Rattle.tables.specs.Geometry.{instructions}
 use Rattle.draw.specs.Drawing.{drawnTo}
 use Rattle.draw.proofs.IndexLaws.{countOf-le}
 use Rattle.draw.proofs.LineLaws.{line-start, line-next, line-last}
@@ -14,7 +15,8 @@ use Rattle.draw.proofs.draw_line.Statement.{statement}
 use Rattle.draw.proofs.draw_line.Tie as tie
 
 abbrev Inv-loop : tie.InvT-loop
-Inv-loop line₀ ins strings font count v k₀ line k = (k ≤ count) × (count ≤ 48) × (line ≡ tab (length line₀) (drawnTo ins strings font k v))
+Inv-loop line₀ ins strings font count v k₀ line k =
+    (k ≤ count) × (count ≤ instructions) × (line ≡ tab (length line₀) (drawnTo ins strings font k v))
 
 abbrev μ-loop : tie.MeasureT-loop
 μ-loop line₀ ins strings font count v k₀ line k = count - k
@@ -23,7 +25,13 @@ fill-run-requires : tie.Need-fill-run-requires Inv-loop μ-loop
 fill-run-requires c κs = search needs
 
 loop-holds : tie.Need-loop-holds Inv-loop μ-loop
-loop-holds c = (omega arith, omega (arith, countOf-le (c .before .before .before .before .before .before .before .before .args .ins .now)), search (line-start, needs))
+loop-holds c = (
+  omega arith,
+  omega
+      (arith, countOf-le (c .before .before .before .before .before .before .before .before .args .ins .now)),
+  search
+      (line-start, needs),
+)
 
 draw-one-requires : tie.Need-draw-one-requires Inv-loop μ-loop
 draw-one-requires c κs = search needs
@@ -39,7 +47,8 @@ loop-again c = (omega arith, omega arith, search (line-next, needs))
 
 same-length : tie.Need-same-length Inv-loop μ-loop
 same-length c =
-    ap length (c .before .loop .inv .2) ∙ length-tab _ _ ∙ ap length (c .before .before .before .before .fill-run .ensures) ∙ length-each _ _
+    ap length (c .before .loop .inv .2) ∙ length-tab _ _
+    ∙ ap length (c .before .before .before .before .fill-run .ensures) ∙ length-each _ _
 
 returns : tie.Need-returns Inv-loop μ-loop
 returns c =

@@ -8,17 +8,18 @@ use native.Mathlib.Omega.{arith}
 use borrow.Author.Tests.{lt-ltb, le-ltb}
 use Rattle.lists.specs.Zero.{zeroFrom}
 use Rattle.lists.proofs.Zero.{zero-stops, zero-passes, zero-ends}
+use Rattle.tables.specs.Geometry.{instructions}
 use Rattle.draw.specs.Instruction.{opcode}
-use Rattle.draw.specs.Drawing.{countOf, endedOf, endOf}
+use Rattle.draw.specs.Drawing.{countOf, endedOf, listEnd}
 use borrow.Author.Needs.{needs}
 use Rattle.draw.proofs.list_end.Statement.{statement}
 use Rattle.draw.proofs.list_end.Tie as tie
 
 abbrev Inv-loop : tie.InvT-loop
-Inv-loop ins k₀ k = (k ≤ 48) × (zeroFrom (48 - k) (opcode ins) k ≡ countOf ins)
+Inv-loop ins k₀ k = (k ≤ instructions) × (zeroFrom (instructions - k) (opcode ins) k ≡ countOf ins)
 
 abbrev μ-loop : tie.MeasureT-loop
-μ-loop ins k₀ k = 48 - k
+μ-loop ins k₀ k = instructions - k
 
 loop-holds : tie.Need-loop-holds Inv-loop μ-loop
 unfolding countOf
@@ -33,25 +34,29 @@ add-k c = search needs
 loop-less : tie.Need-loop-less Inv-loop μ-loop
 loop-less c = search needs
 
-list-again : (ins : List ℕ) (k op : ℕ) → op ≡ opcode ins k → (op ≡ 0 → ⊥) → k < 48 → zeroFrom (48 - k) (opcode ins) k ≡ countOf ins
-    → zeroFrom (48 - (k + 1)) (opcode ins) (k + 1) ≡ countOf ins
-list-again ins k op e ne h i = sym (zero-passes 48 (opcode ins) k h (rw e at ne)) ∙ i
+list-again : (ins : List ℕ) (k op : ℕ) → op ≡ opcode ins k → (op ≡ 0 → ⊥) → k < instructions
+    → zeroFrom (instructions - k) (opcode ins) k ≡ countOf ins
+    → zeroFrom (instructions - (k + 1)) (opcode ins) (k + 1) ≡ countOf ins
+list-again ins k op e ne h i = sym (zero-passes instructions (opcode ins) k h (rw e at ne)) ∙ i
 
 loop-again : tie.Need-loop-again Inv-loop μ-loop
 loop-again c = (omega arith, search (list-again, needs))
 
 -- ---- the list's end: none found, or one at k
 
-end-none : (ins : List ℕ) (k : ℕ) → 48 ≤ k → zeroFrom (48 - k) (opcode ins) k ≡ countOf ins → record { found = false; count = k } ≡ endOf ins
+end-none : (ins : List ℕ) (k : ℕ) → instructions ≤ k → zeroFrom (instructions - k) (opcode ins) k ≡ countOf ins
+    → record { found = false; count = k } ≡ listEnd ins
 unfolding endedOf
 end-none ins k h i =
-    let e : k ≡ countOf ins = sym (zero-ends 48 (opcode ins) k h) ∙ i in rw (← e, le-ltb k 48 h)
+    let e : k ≡ countOf ins = sym (zero-ends instructions (opcode ins) k h) ∙ i in rw (← e, le-ltb k instructions h)
 
-end-found : (ins : List ℕ) (k op : ℕ) → op ≡ opcode ins k → op ≡ 0 → k < 48 → zeroFrom (48 - k) (opcode ins) k ≡ countOf ins
-    → record { found = true; count = k } ≡ endOf ins
+end-found : (ins : List ℕ) (k op : ℕ) → op ≡ opcode ins k → op ≡ 0 → k < instructions
+    → zeroFrom (instructions - k) (opcode ins) k ≡ countOf ins
+    → record { found = true; count = k } ≡ listEnd ins
 unfolding endedOf
 end-found ins k op eo z h i =
-    let e : k ≡ countOf ins = sym (zero-stops 48 (opcode ins) k h (sym eo ∙ z)) ∙ i in rw (← e, lt-ltb k 48 h)
+    let e : k ≡ countOf ins = sym (zero-stops instructions (opcode ins) k h (sym eo ∙ z)) ∙ i in
+    rw (← e, lt-ltb k instructions h)
 
 returns : tie.Need-returns Inv-loop μ-loop
 returns c = search (end-none, needs)

@@ -23,7 +23,9 @@ cast-result-2 : tie.Need-cast-result-2
 cast-result-2 c = search needs
 
 returns-2 : tie.Need-returns-2
-returns-2 c = host-refused _ _ _ _ _ (c .before .before .before .before .if1 .left) _ (c .before .refusal-of .ensures ∙ ap checkOf (c .before .before .before .words-of .ensures)) (c .if2 .taken)
+returns-2 c =
+    host-refused _ _ _ _ _ (c .before .before .before .before .if1 .left) _ (c .before .refusal-of .ensures
+    ∙ ap checkOf (c .before .before .before .words-of .ensures)) (c .if2 .taken)
 
 frame-requires : tie.Need-frame-requires
 frame-requires c κs = search needs
@@ -37,7 +39,10 @@ same-length c = search needs
 returns-3 : tie.Need-returns-3
 returns-3 c =
     let w = c .before .before .before .before .before .before .before .before .before .words-of .ensures in
-    host-painted _ _ _ _ _ (c .before .before .before .before .before .before .before .before .before .before .if1 .left) _ _ _ (c .before .before .before .before .before .before .before .refusal-of .ensures ∙ ap checkOf w) (c .before .before .before .before .before .before .if2 .left)
+    host-painted _ _ _ _ _
+    (c .before .before .before .before .before .before .before .before .before .before .if1 .left) _ _ _
+    (c .before .before .before .before .before .before .before .refusal-of .ensures ∙ ap checkOf w)
+    (c .before .before .before .before .before .before .if2 .left) _
     (rw w at (c .before .before .before .frame .ensures .0)) (rw w at (c .before .before .before .frame .ensures .1))
 
 pub spoonwing-frame-spec : {M : Type 1} → statement M

@@ -6,13 +6,13 @@ use Prim.Native.Nat.{_≤_, _-_}
 use native.Mathlib.Omega.{arith}
 use lib.ListN.{replicate}
 use Rattle.lists.proofs.Upto.{Upto, upto-set}
-use Rattle.host.specs.Host.{wordAt}
+use Rattle.host.specs.Host.{imageWord}
 use Rattle.host.proofs.HostLaws.{words-none, words-all}
 use Rattle.host.proofs.words_of.Statement.{statement}
 use Rattle.host.proofs.words_of.Tie as tie
 
 abbrev Inv-loop : tie.InvT-loop
-Inv-loop image words₀ i₀ words i = (i ≤ 52) × Upto words (replicate 52 0) (wordAt image) i
+Inv-loop image words₀ i₀ words i = (i ≤ 52) × Upto words (replicate 52 0) (imageWord image) i
 
 abbrev μ-loop : tie.MeasureT-loop
 μ-loop image words₀ i₀ words i = 52 - i
@@ -42,7 +42,8 @@ loop-less : tie.Need-loop-less Inv-loop μ-loop
 loop-less c = search needs
 
 loop-again : tie.Need-loop-again Inv-loop μ-loop
-loop-again c = (search needs, upto-set _ _ (c .before .before .loop .inv .1) refl refl (omega arith) (c .word .ensures .0))
+loop-again c =
+    (search needs, upto-set _ _ (c .before .before .loop .inv .1) refl refl (omega arith) (c .word .ensures .0))
 
 returns : tie.Need-returns Inv-loop μ-loop
 returns c = words-all _ _ _ (omega arith) (omega arith) (c .before .loop .inv .1)

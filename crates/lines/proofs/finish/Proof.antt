@@ -1,22 +1,19 @@
--- `lines::finish` meets its contract: nothing for no byte, else the line. Assumes nothing.
+-- `lines::finish` meets its contract: a line's answer is shorter than the output. Assumes nothing.
 use borrow.Author.Needs.{needs}
-use Rattle.lines.proofs.BlockLaws.{finish-none, finish-some}
+use native.Mathlib.Omega.{arith}
 use Rattle.lines.proofs.finish.Statement.{statement}
 use Rattle.lines.proofs.finish.Tie as tie
 
-returns : tie.Need-returns
-returns c = finish-none _ _ _ _ (c .if1 .taken)
-
-run-line-requires : tie.Need-run-line-requires
-run-line-requires c κs = search needs
+finish-in-requires : tie.Need-finish-in-requires
+finish-in-requires c κs = search needs
 
 same-length : tie.Need-same-length
 same-length c = search needs
 
-returns-2 : tie.Need-returns-2
-returns-2 c =
-    let a = c .before .before .before .before .before .before .before .before .args in
-    finish-some (a .state) (a .tables .now) (a .text .now) _ _ _ _ (c .before .before .before .before .before .if1 .left) (c .before .before .run-line .ensures)
+returns : tie.Need-returns
+returns c =
+    let e = c .before .before .finish-in .ensures in
+    (e .0, (e .1 .0, (e .1 .1 .0, omega (arith, e .1 .1 .1))))
 
 pub finish-spec : {M : Type 1} → statement M
-finish-spec = tie.close (tie.spec returns run-line-requires same-length returns-2)
+finish-spec = tie.close (tie.spec finish-in-requires same-length returns)

@@ -6,7 +6,8 @@ use Prim.Native.Nat.{_+_, _-_, _*_, _≤_}
 use native.Mathlib.Omega.{arith}
 use borrow.Author.Needs.{needs}
 use Rattle.mix.specs.Fade.{elapsed, fadeOf}
-use Rattle.mix.proofs.FadeLaws.{fadeAt-still, fadeAt-before, fadeAt-ended, fadeAt-way, is-elapsed, way-sum-le, way-le}
+use Rattle.mix.proofs.FadeLaws.{fadeAt-still, fadeAt-before, fadeAt-ended, fadeAt-way, is-elapsed, way-sum-le}
+use Rattle.mix.proofs.FadeLaws.{way-le}
 use Rattle.mix.proofs.fade.Statement.{statement}
 use Rattle.mix.proofs.fade.Tie as tie
 
@@ -18,7 +19,8 @@ wrapping-sub-u32-requires : tie.Need-wrapping-sub-u32-requires
 wrapping-sub-u32-requires c κs = search needs
 
 -- the wrapping difference is e
-at-e : (c : tie.After-wrapping-sub-u32) → elapsed (c .before .before .args .frame) (c .before .before .args .start) ≡ c .wrapping-sub-u32 .result
+at-e : (c : tie.After-wrapping-sub-u32)
+    → elapsed (c .before .before .args .frame) (c .before .before .args .start) ≡ c .wrapping-sub-u32 .result
 at-e c = is-elapsed _ _ _ (omega arith) (omega arith) (omega arith) (c .wrapping-sub-u32 .ensures)
 
 returns-2 : tie.Need-returns-2
@@ -33,7 +35,8 @@ sub-sum : tie.Need-sub-sum
 sub-sum c = search needs
 
 -- the way's sum is at most 255 for each frame of the length
-bound : (c : tie.Else3) → let a = c .before .before .before .before .args in let e = c .before .before .wrapping-sub-u32 .result in
+bound : (c : tie.Else3)
+    → let a = c .before .before .before .before .args in let e = c .before .before .wrapping-sub-u32 .result in
     a .value * (a .length - e) + a .target * e ≤ a .length * 255
 bound c = way-sum-le _ _ _ _ 255 (c .if3 .left) (omega arith) (omega arith)
 

@@ -3,7 +3,8 @@ use borrow.Author.Needs.{needs}
 use mathlib.Core.Path.{refl, sym, _∙_}
 use lib.ListN.{length}
 use denote.Ref.{now}
-use Rattle.paint.proofs.FrameLaws.{Fits, paint-fits, frame-refused, frame-done}
+use Rattle.frames.proofs.CallerLaws.{Fits, paint-fits}
+use Rattle.paint.proofs.FrameLaws.{fits-lent, frame-refused, frame-done}
 use Rattle.paint.proofs.frame.Statement.{statement}
 use Rattle.paint.proofs.frame.Tie as tie
 
@@ -14,20 +15,25 @@ returns : tie.Need-returns
 returns c = frame-refused _ _ _ _ (c .before .paint-refusal .ensures) (c .if1 .taken)
 
 -- what passed the refusal
-fits : (c : tie.Else1) → Fits (now (c .before .before .before .before .before .args .w)) 0 8 (length (now (c .before .before .before .before .before .args .out))) (length (now (c .before .before .before .before .before .args .tables))) (length (now (c .before .before .before .before .before .args .pictures)))
+fits : (c : tie.Else1)
+    → Fits (now (c .before .before .before .before .before .args .w)) 0 8
+    (length (now (c .before .before .before .before .before .args .out)))
+    (length (now (c .before .before .before .before .before .args .tables)))
+    (length (now (c .before .before .before .before .before .args .pictures)))
 fits c = paint-fits _ _ _ _ _ _ (sym (c .before .paint-refusal .ensures) ∙ c .if1 .left)
 
 paint-band-requires : tie.Need-paint-band-requires
 paint-band-requires c κs =
     let f = fits (c .before) in
-    (record { tables = f .lent; pictures = f .shown }, f .long, f .wide, f .low, f .high)
+    (fits-lent _ _ _ _ f, f .long, f .wide, f .low, f .high)
 
 same-length : tie.Need-same-length
 same-length c = c .before .before .paint-band .kept .1 .1 .1 .1 .1 .1 .1 .1 .0
 
 returns-2 : tie.Need-returns-2
 returns-2 c =
-    frame-done _ _ _ _ (c .before .before .before .before .before .paint-refusal .ensures) _ _ _ (c .before .before .before .before .if1 .left)
+    frame-done _ _ _ _ (c .before .before .before .before .before .paint-refusal .ensures) _ _ _
+    (c .before .before .before .before .if1 .left)
     (c .before .before .paint-band .ensures .0) refl (c .before .before .paint-band .ensures .1)
 
 pub frame-spec : {M : Type 1} → statement M

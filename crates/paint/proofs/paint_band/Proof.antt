@@ -1,14 +1,15 @@
 -- `paint::paint_band` meets its contract: with the display off there is the ground alone; else the rows hold the band
 -- and the plan's marks are its error bits. Assumes nothing.
 use borrow.Author.Needs.{needs}
-use mathlib.Core.Path.{sym, ap, _∙_}
+use mathlib.Core.Path.{refl, sym, ap, _∙_}
 use native.Mathlib.Omega.{arith}
 use lib.ListN.{length}
 use denote.Ref.{now}
 use borrow.Author.Tests.{not-true, not-false}
 use Rattle.lists.proofs.Tab.{length-each}
-use Rattle.paint.specs.Band.{errorsOf, bandOf}
+use Rattle.frames.specs.Band.{errorsOf, bandOf}
 use Rattle.paint.proofs.PlanLaws.{planned-numbered}
+use Rattle.paint.proofs.FitLaws.{band-ready}
 use Rattle.paint.proofs.FrameLaws.{off-band, marks-done}
 use Rattle.paint.proofs.GroundLaws.{ground-all, laid-band}
 use Rattle.paint.proofs.paint_band.Statement.{statement}
@@ -28,7 +29,9 @@ same-length c = ap length (c .before .before .lay-ground .ensures) ∙ length-ea
 
 returns : tie.Need-returns
 returns c =
-    let off = off-band _ _ _ _ _ (sym (c .before .before .before .before .before .before .is-shown .ensures) ∙ not-true _ (c .before .before .before .before .before .if1 .taken)) in
+    let off = off-band _ _ _ _ _
+    (sym (c .before .before .before .before .before .before .is-shown .ensures)
+    ∙ not-true _ (c .before .before .before .before .before .if1 .taken)) in
     let a = c .before .before .before .before .before .before .before .before .before .before in (
       off .0,
       (rw (c .before .before .before .ground-of .ensures) at (c .before .before .lay-ground .ensures))
@@ -39,20 +42,28 @@ plan-of-requires : tie.Need-plan-of-requires
 plan-of-requires c κs = c .before .before .before .before .before .pre .0 .tables
 
 paint-rows-requires : tie.Need-paint-rows-requires
-paint-rows-requires c κs = let a = c .before .before .before .before .before .before .before in ((a .pre .0, c .before .plan-of .ensures), (a .pre .1, a .pre .2, a .pre .3, a .pre .4))
+paint-rows-requires c κs =
+    let a = c .before .before .before .before .before .before .before in
+    ((a .pre .1, a .pre .2), band-ready _ _ _ _ (a .pre .0) (c .before .plan-of .ensures))
 
 marks-of-requires : tie.Need-marks-of-requires
 marks-of-requires c κs = planned-numbered _ _ _ _ _ _ (c .before .before .before .before .plan-of .ensures)
 
 same-length-2 : tie.Need-same-length-2
-same-length-2 c = ap length (c .before .before .before .paint-rows .ensures) ∙ length-each _ _
+same-length-2 c = c .before .before .before .paint-rows .kept .0
 
 returns-2 : tie.Need-returns-2
 unfolding errorsOf bandOf
 returns-2 c =
     let a = c .before .before .before .before .before .before .before .before .before .before .before in
-    let t = sym (c .before .before .before .before .before .before .before .is-shown .ensures) ∙ not-false _ (c .before .before .before .before .before .before .if1 .left) in
-    (rw t (c .marks-of .ensures ∙ marks-done _ _ _ _ _ (a .pre .3) (a .pre .4) (c .before .before .before .before .before .plan-of .ensures)), rw t (c .before .before .before .paint-rows .ensures ∙ laid-band _ _ _ _ _ (a .pre .1)))
+    let t = sym (c .before .before .before .before .before .before .before .is-shown .ensures)
+    ∙ not-false _ (c .before .before .before .before .before .before .if1 .left) in
+    let p = c .before .before .before .before .before .plan-of .ensures in
+    let rows = c .before .before .before .paint-rows .ensures .laid _ _ _ (refl, (refl, refl))
+    (record { order = a .pre .3; end = a .pre .4; planned = p }) in (
+      rw t (c .marks-of .ensures ∙ marks-done _ _ _ _ _ (a .pre .3) (a .pre .4) p),
+      rw t (rows ∙ laid-band _ _ _ _ _ (a .pre .1)),
+    )
 
 pub paint-band-spec : {M : Type 1} → statement M
 paint-band-spec =

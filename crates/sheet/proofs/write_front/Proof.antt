@@ -6,7 +6,7 @@ use Rattle.sheet.proofs.write_front.Statement.{statement}
 use Rattle.sheet.proofs.write_front.Tie as tie
 
 slice-aggregate-write-all : tie.Need-slice-aggregate-write-all
-slice-aggregate-write-all c = sym (length-take-le _ (c .before .before .args .answer .now) (search needs))
+slice-aggregate-write-all c = sym (length-take-le _ (c .before .before .args .out .now) (search needs))
 
 write-all-requires : tie.Need-write-all-requires
 write-all-requires c κs = search needs

@@ -15,7 +15,8 @@ same-length : tie.Need-same-length
 same-length c = search needs
 
 returns : tie.Need-returns
-returns c = rw (← c .before .before .before .before .before .before .fill .ensures) (c .before .before .blend-flat .ensures)
+returns c =
+    rw (← c .before .before .before .before .before .before .fill .ensures) (c .before .before .blend-flat .ensures)
 
 lay-flat-blocks-requires : tie.Need-lay-flat-blocks-requires
 lay-flat-blocks-requires c κs = search needs

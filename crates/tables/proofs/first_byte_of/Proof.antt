@@ -19,7 +19,11 @@ bank-at-requires c κs = search needs
 
 returns : tie.Need-returns
 returns c =
-    let e = rw (c .before .kind-of .ensures, c .before .before .bank-of .ensures, c .before .before .before .controller-of .ensures) at (c .bank-at .ensures) in
+    let e = rw (
+      c .before .kind-of .ensures,
+      c .before .before .bank-of .ensures,
+      c .before .before .before .controller-of .ensures,
+    ) at (c .bank-at .ensures) in
     (e, rw e (bank-room _ _ _ (omega arith) (omega arith)))
 
 pub first-byte-of-spec : {M : Type 1} → statement M

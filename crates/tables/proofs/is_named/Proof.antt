@@ -4,11 +4,11 @@ use borrow.Author.Needs.{needs}
 use Rattle.tables.proofs.is_named.Statement.{statement}
 use Rattle.tables.proofs.is_named.Tie as tie
 
-kind-of-requires : tie.Need-kind-of-requires
-kind-of-requires c κs = search needs
-
 controller-of-requires : tie.Need-controller-of-requires
 controller-of-requires c κs = search needs
+
+kind-of-requires : tie.Need-kind-of-requires
+kind-of-requires c κs = search needs
 
 active-bank-requires : tie.Need-active-bank-requires
 active-bank-requires c κs = search needs
@@ -21,16 +21,16 @@ returns c =
     rw (
       c .bank-of .ensures,
       c .before .active-bank .ensures,
-      c .before .before .controller-of .ensures,
-      c .before .before .before .kind-of .ensures,
+      c .before .before .kind-of .ensures,
+      c .before .before .before .controller-of .ensures,
     )
 
 pub is-named-spec : {M : Type 1} → statement M
 is-named-spec =
     tie.close
     (tie.spec
-    kind-of-requires
     controller-of-requires
+    kind-of-requires
     active-bank-requires
     bank-of-requires
     returns)

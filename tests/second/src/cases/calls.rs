@@ -6,10 +6,16 @@ use crate::cases::scene::{controller, nudge, scene, spoil, Room};
 use crate::rng::Rng;
 use crate::script::*;
 use crate::tables::{Bank, Kind, TABLES_LEN};
-use crate::words::{Words, WORDS};
+use crate::words::{layer_word, Words, WORDS};
 
 /// The pixels that frame layers may bring together.
 const FRAME_PIXELS: i64 = 900;
+
+/// The scripts that the tests compare unless told otherwise, of the seeds from 0 on.
+pub const SCRIPTS: u64 = 20;
+pub const RECORDS_A_SCRIPT: usize = 1_000;
+/// And the scripts of edges.
+pub const EDGES: u64 = 12;
 
 /// The first seed whose calls are of every kind.
 const GATE_SEED: u64 = 72;
@@ -19,8 +25,7 @@ const GATE_RECORDS: usize = 1_000;
 /// left.
 pub fn gen_calls(seed: u64, n: usize) -> Vec<Call> {
     // Kept apart from the other cases' seeds.
-    let mut author =
-        Author { rng: Rng::new(seed ^ 0x6361_6C6C), stage: Stage::new(), calls: Vec::new() };
+    let mut author = Author::new(seed ^ 0x6361_6C6C);
     while author.calls.len() < n {
         let nothing_active = author.stage.display.active().output_len() == 0;
         match author.rng.below(60) {
@@ -34,6 +39,36 @@ pub fn gen_calls(seed: u64, n: usize) -> Vec<Call> {
         }
     }
     author.calls.truncate(n);
+    author.calls
+}
+
+/// Calls after which everything is lent as a frame needs it, over an output that holds something,
+/// and a depth at which the painting may be split: between two layers as a rule, at an end at
+/// times.
+pub fn gen_split(seed: u64) -> (Vec<Call>, u32) {
+    let mut author = Author::new(seed ^ 0x7370_6C69);
+    author.make_ready();
+    let active = author.stage.display.active();
+    let upper = author.rng.pick(&active.order()[1..]);
+    let depth = active.layer(upper).depth;
+    let depth = if author.rng.percent(15) { author.rng.pick(&[0, 8]) } else { depth };
+    (author.calls, depth)
+}
+
+/// A script whose fades stand at each of their edges in turn, with fills of wrong lengths between
+/// the frames.
+pub fn gen_edges(seed: u64) -> Vec<Call> {
+    let mut author = Author::new(seed ^ 0x6564_6765);
+    author.make_ready();
+    let length = author.rng.range(2, 65_535);
+    let (first, last) = (i64::from(i32::MIN), i64::from(i32::MAX));
+    for e in [first, first + 1, -1, 0, 1, length - 1, length, length + 1, last - 1, last] {
+        author.fade_at(e, length);
+        author.call(FRAME, 0, 0);
+        author.fill_wrongly();
+    }
+    author.fade_at(0, 0);
+    author.call(FRAME, 0, 0);
     author.calls
 }
 
@@ -52,6 +87,10 @@ struct Author {
 }
 
 impl Author {
+    fn new(seed: u64) -> Author {
+        Author { rng: Rng::new(seed), stage: Stage::new(), calls: Vec::new() }
+    }
+
     fn call(&mut self, letter: u8, a: u32, b: u32) -> u32 {
         let call = Call { letter, a, b };
         let answer = self.stage.play(call);
@@ -82,6 +121,51 @@ impl Author {
         let Lent { tables, pictures, out } = self.stage.lent;
         if [tables, pictures, out][buffer as usize] != length {
             self.call(LEND, buffer, length as u32);
+        }
+    }
+
+    /// Has two layers shown, with their words pending too, and lends each buffer as a frame needs
+    /// it.
+    fn make_ready(&mut self) {
+        self.fill_buffer(FILL_TABLES);
+        let mut layers = 0;
+        while layers < 2 || !self.stage.display.active().display_on() {
+            self.set_up();
+            self.load();
+            layers = self.stage.display.active().order().len();
+        }
+        let (active, pending) = (self.stage.display.active(), self.stage.display.pending());
+        let (active, pending) = (active.clone(), pending.clone());
+        for register in (0..WORDS).filter(|&i| active.0[i] != pending.0[i]) {
+            self.call(WRITE, register as u32, active.0[register]);
+        }
+        self.fill_buffer(FILL_PICTURES);
+        self.fill_buffer(FILL_OUT);
+        let lengths = [TABLES_LEN as i64, active.pictures_len(), active.output_len()];
+        for (buffer, length) in lengths.into_iter().enumerate() {
+            self.call(LEND, buffer as u32, length as u32);
+        }
+    }
+
+    /// Starts a frame in which some layer is e frames into its fade.
+    fn fade_at(&mut self, e: i64, length: i64) {
+        let n = self.rng.pick(&self.stage.display.active().order());
+        let first = layer_word(n) as u32;
+        let now = self.stage.display.frame_number().wrapping_add(1);
+        let (value, target) = (u32::from(self.rng.byte()), u32::from(self.rng.byte()));
+        self.call(WRITE, first + 1, 1 << 31 | value);
+        self.call(WRITE, first + 4, now.wrapping_sub(e as u32));
+        self.call(WRITE, first + 5, length as u32 | target << 16);
+        self.call(START, 0, 0);
+    }
+
+    /// A fill that is lent too little or too much, and then what is right.
+    fn fill_wrongly(&mut self) {
+        let right = self.stage.lent.out;
+        let wrong = self.rng.pick(&[0, right - 4, right - 1, right + 1, right + 4]);
+        for length in [wrong, right] {
+            self.call(LEND, 2, length as u32);
+            self.call(FILL, 0, 0);
         }
     }
 

@@ -9,6 +9,9 @@ use crate::rng::Rng;
 use crate::tables::{Bank, Kind, TABLES_LEN};
 use crate::words::{Words, LAYERS};
 
+/// The calls that the tests compare unless told otherwise, of the seeds from 0 on.
+pub const HOST_CALLS: u64 = 4_000;
+
 /// All that one call lends.
 #[derive(Clone, Debug)]
 pub struct HostCase {
@@ -37,13 +40,8 @@ pub fn gen_host(seed: u64) -> HostCase {
     for &fault in faults.iter().filter(|fault| (RESERVED_BIT..=SAME_DEPTH).contains(fault)) {
         spoil(rng, &mut words, fault);
     }
-    let mut image: Vec<u8> = words.0.into_iter().flat_map(u32::to_le_bytes).collect();
-    if faults.contains(&WRONG_IMAGE) {
-        image.resize(
-            rng.pick(&[0, 4, IMAGE_LEN - 4, IMAGE_LEN - 1, IMAGE_LEN + 1, IMAGE_LEN + 4, 416]),
-            0,
-        );
-    }
+    let wrong_images = [0, 4, IMAGE_LEN - 4, IMAGE_LEN - 1, IMAGE_LEN + 1, IMAGE_LEN + 4, 416];
+    let image_len = if faults.contains(&WRONG_IMAGE) { rng.pick(&wrong_images) } else { IMAGE_LEN };
     let lent = |rng: &mut Rng, answer, right| {
         if faults.contains(&answer) {
             wrong_len(rng, right)
@@ -55,12 +53,17 @@ pub fn gen_host(seed: u64) -> HostCase {
     let pictures_len = lent(rng, WRONG_PICTURES, right_pictures);
     let output_len = lent(rng, WRONG_OUTPUT, right_output);
     HostCase {
-        image,
+        image: resized(image_bytes(&words), image_len),
         frame,
         tables: resized(tables, tables_len),
         pictures: pictures(rng, pictures_len),
         output: rng.bytes(output_len),
     }
+}
+
+/// The register image of words.
+pub fn image_bytes(words: &Words) -> Vec<u8> {
+    words.0.into_iter().flat_map(u32::to_le_bytes).collect()
 }
 
 /// None as a rule, otherwise one to four refusals, so that their order shows.
@@ -98,23 +101,28 @@ fn screen(rng: &mut Rng) -> (i64, i64) {
 }
 
 /// Both banks of every controller, fitted to its layer.
-fn tables(rng: &mut Rng, words: &Words) -> Vec<u8> {
+pub fn tables(rng: &mut Rng, words: &Words) -> Vec<u8> {
     let mut tables = vec![0; TABLES_LEN];
     for g in 0..LAYERS {
-        let layer = words.layer(g);
-        for kind in Kind::ALL {
-            for b in 0..2 {
-                let bytes = banks::bank(rng, kind, layer.width, layer.height);
-                let start = Bank { g, kind, b }.start();
-                tables[start..start + bytes.len()].copy_from_slice(&bytes);
-            }
-        }
+        fill_banks(rng, words, g, &mut tables);
     }
     tables
 }
 
+/// Both banks of one controller.
+pub fn fill_banks(rng: &mut Rng, words: &Words, g: usize, tables: &mut [u8]) {
+    let layer = words.layer(g);
+    for kind in Kind::ALL {
+        for b in 0..2 {
+            let bytes = banks::bank(rng, kind, layer.width, layer.height);
+            let start = Bank { g, kind, b }.start();
+            tables[start..start + bytes.len()].copy_from_slice(&bytes);
+        }
+    }
+}
+
 /// A frame number where some layer's fade begins, ends or turns over, or one at an edge of its own.
-fn frame_number(rng: &mut Rng, words: &Words, now: u32) -> u32 {
+pub fn frame_number(rng: &mut Rng, words: &Words, now: u32) -> u32 {
     let fade = words.layer(rng.below(LAYERS)).fade;
     let off = rng.range(-1, 1) as u32;
     match rng.below(8) {

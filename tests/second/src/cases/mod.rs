@@ -1,18 +1,21 @@
-//! Seeded cases for the tests: sheets, host calls and scripts of calls. A case's number is its
-//! seed. What is right or wrong about a case is never decided here.
+//! Seeded cases for the tests: sheets, host calls, scripts of calls, and inputs that meet what a
+//! law asks. A case's number is its seed. What is right or wrong about a case is never decided
+//! here.
 
 mod banks;
 mod calls;
 mod drawings;
 mod form;
 mod hosts;
+mod laws;
 mod scene;
 mod sheets;
 mod sweeps;
 
-pub use calls::{gate_script, gen_calls};
+pub use calls::{gate_script, gen_calls, gen_edges, gen_split, EDGES, RECORDS_A_SCRIPT, SCRIPTS};
 pub use drawings::drawing_sheet;
 pub use form::line_text;
-pub use hosts::{gen_host, HostCase};
-pub use sheets::gen_sheet;
+pub use hosts::{gen_host, HostCase, HOST_CALLS};
+pub use laws::{gen_exchange, gen_invisible, gen_opaque, Inputs, Pair};
+pub use sheets::{gen_sheet, LINES_A_SHEET, SHEETS};
 pub use sweeps::{byte_sheet, number_sheet, word_images, word_sheet};

@@ -3,7 +3,7 @@
 
 use crate::answers::*;
 use crate::rng::Rng;
-use crate::words::{layer_word, named_bits, Words, LAYERS, WORDS};
+use crate::words::{layer_word, named_bits, Words, DEPTH_BITS, LAYERS, WORDS};
 
 /// What a scene has to fit into: its screen, the pixels that frame layers may bring together, and
 /// the frame number near which fades begin.
@@ -16,7 +16,7 @@ pub struct Room {
 }
 
 /// Two twelve bit numbers at 11:0 and 27:16.
-fn pair(low: i64, high: i64) -> u32 {
+pub fn pair(low: i64, high: i64) -> u32 {
     low as u32 | (high as u32) << 16
 }
 
@@ -57,7 +57,7 @@ fn disable(rng: &mut Rng, words: &mut Words, n: usize) {
 }
 
 /// Puts a layer somewhere on the screen and answers how many pixels it has.
-fn place(rng: &mut Rng, words: &mut Words, n: usize, room: Room) -> i64 {
+pub fn place(rng: &mut Rng, words: &mut Words, n: usize, room: Room) -> i64 {
     let (x, width) = span(rng, room.width);
     let (y, height) = span(rng, room.height);
     words.0[layer_word(n) + 2] = pair(x, y);
@@ -67,7 +67,7 @@ fn place(rng: &mut Rng, words: &mut Words, n: usize, room: Room) -> i64 {
 
 /// A start and a length that stay within the size; the whole of it, its far end and single lines
 /// come often.
-fn span(rng: &mut Rng, size: i64) -> (i64, i64) {
+pub fn span(rng: &mut Rng, size: i64) -> (i64, i64) {
     match rng.below(8) {
         0 | 1 => (0, size),
         2 => (rng.range(0, size - 1), 1),
@@ -97,7 +97,7 @@ pub fn pictures(rng: &mut Rng, length: usize) -> Vec<u8> {
     bytes
 }
 
-fn alpha_word(rng: &mut Rng) -> u32 {
+pub fn alpha_word(rng: &mut Rng) -> u32 {
     let global = rng.percent(45);
     let value = if rng.percent(10) { 0 } else { rng.byte() };
     u32::from(value) | u32::from(global) << 31
@@ -105,7 +105,7 @@ fn alpha_word(rng: &mut Rng) -> u32 {
 
 /// A fade that is running now more often than not; the others sit where the signed difference turns
 /// over.
-fn write_fade(rng: &mut Rng, words: &mut Words, n: usize, now: u32) {
+pub fn write_fade(rng: &mut Rng, words: &mut Words, n: usize, now: u32) {
     let start = match rng.below(10) {
         0..=3 => now.wrapping_add(rng.range(-5, 2) as u32),
         4 => now.wrapping_add(rng.range(-400, 400) as u32),
@@ -156,7 +156,7 @@ fn change(rng: &mut Rng, words: &mut Words, room: Room) {
         8 => words.0[first] = words.0[first] & 3 | (rng.below(8) as u32) << 8,
         _ => {
             let other = layer_word(rng.below(LAYERS));
-            let depths = [words.0[first] & 0x700, words.0[other] & 0x700];
+            let depths = [words.0[first] & DEPTH_BITS, words.0[other] & DEPTH_BITS];
             words.0[first] = words.0[first] & 3 | depths[1];
             words.0[other] = words.0[other] & 3 | depths[0];
         }
@@ -224,7 +224,7 @@ fn share_depth(rng: &mut Rng, words: &mut Words) {
     let mut enabled: Vec<usize> = (0..LAYERS).filter(|&n| words.layer(n).enabled).collect();
     rng.shuffle(&mut enabled);
     if let [first, second, ..] = enabled[..] {
-        let depth = words.0[layer_word(first)] & 0x700;
+        let depth = words.0[layer_word(first)] & DEPTH_BITS;
         let word = &mut words.0[layer_word(second)];
         *word = *word & 3 | depth;
         return;

@@ -10,6 +10,10 @@ use crate::sheet::{Line, Load, Sheet, Write, MOST_DIGITS, MOST_OUTPUT};
 use crate::tables::{active_bytes, Bank, Kind};
 use crate::words::{Words, LAYERS, WORDS};
 
+/// The sheets that the tests compare unless told otherwise, of the seeds from 0 on.
+pub const SHEETS: u64 = 50;
+pub const LINES_A_SHEET: usize = 40;
+
 /// Pixels that frame layers bring at most: their bytes, a controller's four banks and the writes
 /// stay within a line.
 const FRAME_PIXELS: i64 = 470;

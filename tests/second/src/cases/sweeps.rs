@@ -2,6 +2,7 @@
 //! seed has to meet it (01 "Registers", "Answers by number", "Sheet program and host entry").
 
 use crate::cases::form::line_text;
+use crate::cases::hosts::image_bytes;
 use crate::sheet::{Line, Load, Write};
 use crate::words::{layer_word, Words, LAYERS, WORDS};
 
@@ -76,8 +77,7 @@ pub fn word_sheet() -> Vec<u8> {
 
 /// The swept words as register images, for the host entry.
 pub fn word_images() -> Vec<Vec<u8>> {
-    let image = |words: Words| words.0.into_iter().flat_map(u32::to_le_bytes).collect();
-    swept_words().into_iter().map(image).collect()
+    swept_words().iter().map(image_bytes).collect()
 }
 
 fn write(words: &Words, register: usize) -> Write {

@@ -14,7 +14,11 @@ same-length c = search needs
 
 returns : tie.Need-returns
 unfolding fillTold fillBytes
-returns c = (ap (told (c .before .before .before .before .before .before .before .args .t1)) (c .before .before .fill .ensures .0), c .before .before .fill .ensures .1)
+returns c = (
+  ap (told (c .before .before .before .before .before .before .before .args .t1))
+      (c .before .before .fill .ensures .0),
+  c .before .before .fill .ensures .1,
+)
 
 pub fill-spec : {M : Type 1} → statement M
 fill-spec = tie.close (tie.spec fill-requires same-length returns)

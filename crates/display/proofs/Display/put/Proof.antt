@@ -3,7 +3,8 @@
 use borrow.Author.Needs.{needs}
 use native.Mathlib.Omega.{arith}
 use borrow.Author.Tests.{not-true, not-false}
-use Rattle.display.proofs.PutLaws.{answer-length, answer-none, answer-active, answer-done, answer-full, put-length, put-none, put-active, put-done, put-full}
+use Rattle.display.proofs.PutLaws.{answer-length, answer-none, answer-active, answer-done, answer-full}
+use Rattle.display.proofs.PutLaws.{put-length, put-none, put-active, put-done, put-full}
 use mathlib.Core.Path.{_≡_, sym, ap, _∙_}
 use Prim.Native.Nat.{ℕ, _+_, _*_, _/_, _%_, _^_}
 use Rattle.lists.proofs.Bits.{one-bit}
@@ -23,7 +24,8 @@ is-named-requires c κs = search needs
 returns-3 : tie.Need-returns-3
 returns-3 c =
     put-active _ _ _
-    (answer-active _ _ (c .before .before .before .before .before .if1 .left) (not-false _ (c .before .before .before .before .if2 .left))
+    (answer-active _ _ (c .before .before .before .before .before .if1 .left)
+    (not-false _ (c .before .before .before .before .if2 .left))
     (sym (c .before .is-named .ensures) ∙ c .if3 .taken))
 
 end-of-requires : tie.Need-end-of-requires
@@ -39,7 +41,13 @@ add-at : tie.Need-add-at
 add-at c = omega (arith, c .first-byte-of .ensures .1)
 
 slice-write-tables : tie.Need-slice-write-tables
-slice-write-tables c = omega (arith, c .first-byte-of .ensures .1, c .before .before .end-of .ensures, c .before .before .before .before .before .before .before .before .if1 .left)
+slice-write-tables c =
+    omega (
+      arith,
+      c .first-byte-of .ensures .1,
+      c .before .before .end-of .ensures,
+      c .before .before .before .before .before .before .before .before .if1 .left,
+    )
 
 add-self : tie.Need-add-self
 add-self c = search needs
@@ -49,10 +57,12 @@ same-length c = search needs
 
 returns-4 : tie.Need-returns-4
 returns-4 c =
-    rw (c .first-byte-of .ensures .0)
+    rw (c .before .first-byte-of .ensures .0)
     (put-done _ _ _
-    (answer-done _ _ (c .before .before .before .before .before .before .before .before .if1 .left) (not-false _ (c .before .before .before .before .before .before .before .if2 .left))
-    (sym (c .before .before .before .before .is-named .ensures) ∙ c .before .before .before .if3 .left) (rw (← c .before .before .end-of .ensures) (c .before .if4 .taken))))
+    (answer-done _ _ (c .before .before .before .before .before .before .before .before .before .if1 .left)
+    (not-false _ (c .before .before .before .before .before .before .before .before .if2 .left))
+    (sym (c .before .before .before .before .before .is-named .ensures) ∙ c .before .before .before .before .if3 .left)
+    (rw (← c .before .before .before .end-of .ensures) (c .before .before .if4 .taken))))
 
 controller-of-requires : tie.Need-controller-of-requires
 controller-of-requires c κs = search needs
@@ -69,10 +79,12 @@ shl-self c = search needs
 returns-5 : tie.Need-returns-5
 returns-5 c =
     let d = c .before .before .before .before .before .before .before .before .before .before .args .t1 in
-    let g : c .controller-of .result ≡ d .selection / 8 % 8 = c .controller-of .ensures in
+    let g : c .controller-of .result ≡ d .selection .number / 8 % 8 = c .controller-of .ensures in
     put-full _ _ _ _
-    (answer-full _ _ (c .before .before .before .before .before .before .before .before .if1 .left) (not-false _ (c .before .before .before .before .before .before .before .if2 .left))
-    (sym (c .before .before .before .before .is-named .ensures) ∙ c .before .before .before .if3 .left) (rw (← c .before .before .end-of .ensures) (c .before .if4 .left)))
+    (answer-full _ _ (c .before .before .before .before .before .before .before .before .if1 .left)
+    (not-false _ (c .before .before .before .before .before .before .before .if2 .left))
+    (sym (c .before .before .before .before .is-named .ensures) ∙ c .before .before .before .if3 .left)
+    (rw (← c .before .before .end-of .ensures) (c .before .if4 .left)))
     (ap (bitOr (d .errors)) (one-bit _ (omega arith) ∙ ap (λ (k : ℕ). 2 ^ (4 * k + 1)) g))
 
 pub put-spec : {M : Type 1} → statement M

@@ -19,7 +19,8 @@ at-frame-requires c κs = search needs
 returns : tie.Need-returns
 returns c =
     c .at-frame .ensures
-    ∙ start-idle _ _ (c .before .before .before .before .before .wrapping-add-u32 .ensures) (sym (c .before .before .is-update .ensures) ∙ not-true _ (c .before .if1 .taken))
+    ∙ start-idle _ _ (c .before .before .before .before .before .wrapping-add-u32 .ensures)
+    (sym (c .before .before .is-update .ensures) ∙ not-true _ (c .before .if1 .taken))
 
 refusal-of-requires : tie.Need-refusal-of-requires
 refusal-of-requires c κs = search needs
@@ -31,7 +32,8 @@ returns-2 : tie.Need-returns-2
 returns-2 c =
     let u = c .before .before .before .before .before in
     c .at-frame2 .ensures
-    ∙ start-refused _ _ (c .before .before .before .before .before .before .before .before .wrapping-add-u32 .ensures) _ (sym (u .is-update .ensures) ∙ not-false _ (c .before .before .before .before .if1 .left))
+    ∙ start-refused _ _ (c .before .before .before .before .before .before .before .before .wrapping-add-u32 .ensures) _
+    (sym (u .is-update .ensures) ∙ not-false _ (c .before .before .before .before .if1 .left))
     (c .before .before .refusal-of .ensures) (c .before .if2 .taken)
 
 at-frame-requires-3 : tie.Need-at-frame-requires-3
@@ -41,7 +43,8 @@ returns-3 : tie.Need-returns-3
 returns-3 c =
     let u = c .before .before .before .before .before in
     c .at-frame3 .ensures
-    ∙ start-taken _ _ (c .before .before .before .before .before .before .before .before .wrapping-add-u32 .ensures) _ (sym (u .is-update .ensures) ∙ not-false _ (c .before .before .before .before .if1 .left))
+    ∙ start-taken _ _ (c .before .before .before .before .before .before .before .before .wrapping-add-u32 .ensures) _
+    (sym (u .is-update .ensures) ∙ not-false _ (c .before .before .before .before .if1 .left))
     (c .before .before .refusal-of .ensures) (c .before .if2 .left)
 
 pub start-spec : {M : Type 1} → statement M

@@ -5,14 +5,8 @@ use Rattle.draw.proofs.LineLaws.{box-line-above, box-line-below, box-li
 use Rattle.draw.proofs.boxes.draw_box.Statement.{statement}
 use Rattle.draw.proofs.boxes.draw_box.Tie as tie
 
-mul-word : tie.Need-mul-word
-mul-word c = search needs
-
-add-word : tie.Need-add-word
-add-word c = search needs
-
-word-requires : tie.Need-word-requires
-word-requires c κs = search needs
+word-of-requires : tie.Need-word-of-requires
+word-of-requires c κs = search needs
 
 returns : tie.Need-returns
 returns c = search (box-line-above, needs)
@@ -20,20 +14,11 @@ returns c = search (box-line-above, needs)
 returns-2 : tie.Need-returns-2
 returns-2 c = search (box-line-below, needs)
 
-mul-word-2 : tie.Need-mul-word-2
-mul-word-2 c = search needs
+word-of-requires-2 : tie.Need-word-of-requires-2
+word-of-requires-2 c κs = search needs
 
-word-requires-2 : tie.Need-word-requires-2
-word-requires-2 c κs = search needs
-
-mul-word-3 : tie.Need-mul-word-3
-mul-word-3 c = search needs
-
-add-word-2 : tie.Need-add-word-2
-add-word-2 c = search needs
-
-word-requires-3 : tie.Need-word-requires-3
-word-requires-3 c κs = search needs
+word-of-requires-3 : tie.Need-word-of-requires-3
+word-of-requires-3 c κs = search needs
 
 cast-box-row : tie.Need-cast-box-row
 cast-box-row c = search needs
@@ -51,16 +36,11 @@ pub draw-box-spec : {M : Type 1} → statement M
 draw-box-spec =
     tie.close
     (tie.spec
-    mul-word
-    add-word
-    word-requires
+    word-of-requires
     returns
     returns-2
-    mul-word-2
-    word-requires-2
-    mul-word-3
-    add-word-2
-    word-requires-3
+    word-of-requires-2
+    word-of-requires-3
     cast-box-row
     box-row-requires
     same-length

@@ -3,7 +3,7 @@
 use borrow.Author.Needs.{needs}
 use Rattle.lists.proofs.Tests.{tests}
 use Rattle.lists.proofs.Choice.{either-any}
-use Rattle.draw.specs.Rows.{wholeOf}
+use Rattle.draw.specs.Engine.Rows.{wholeOf}
 use Rattle.draw.proofs.boxes.is_whole.Statement.{statement}
 use Rattle.draw.proofs.boxes.is_whole.Tie as tie
 

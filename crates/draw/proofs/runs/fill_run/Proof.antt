@@ -7,7 +7,7 @@ use lib.ListN.{length, getD}
 use borrow.Author.Needs.{needs}
 use Rattle.lists.proofs.Tab.{is-each}
 use Rattle.lists.proofs.Upto.{Upto, upto-none, upto-set, upto-skip}
-use Rattle.draw.specs.Rows.{runAfter}
+use Rattle.draw.specs.Engine.Rows.{runAfter}
 use Rattle.draw.proofs.RunLaws.{run-in, run-left, run-right}
 use Rattle.draw.proofs.runs.fill_run.Statement.{statement}
 use Rattle.draw.proofs.runs.fill_run.Tie as tie
@@ -25,7 +25,8 @@ loop-holds : tie.Need-loop-holds Inv-loop μ-loop
 loop-holds c =
     let a = c .before .before .args in (
       omega arith,
-      upto-skip (a .a) (upto-none (a .line .now) (λ i. runAfter (a .a) (a .e) (a .colour) i (getD (a .line .now) i 0))) (omega arith)
+      upto-skip (a .a) (upto-none (a .line .now) (λ i. runAfter (a .a) (a .e) (a .colour) i (getD (a .line .now) i 0)))
+          (omega arith)
           (λ i _ h _. run-left (a .a) (a .e) (a .colour) i _ h),
     )
 
@@ -56,7 +57,8 @@ returns c =
     let l = c .before .loop in
     let all = upto-skip (l .u + length (a .line .now)) (l .inv .1) (omega arith)
     (λ i h _ b. run-right (a .a) (a .e) (a .colour) i _ (omega arith)) in
-    is-each (a .line .now) (l .line) (runAfter (a .a) (a .e) (a .colour)) (all .long) (λ i b. all .new i (omega arith) b)
+    is-each (a .line .now) (l .line) (runAfter (a .a) (a .e) (a .colour)) (all .long)
+    (λ i b. all .new i (omega arith) b)
 
 pub fill-run-spec : {M : Type 1} → statement M
 fill-run-spec =

@@ -10,7 +10,7 @@ use lib.ListN.{length}
 use borrow.Author.Needs.{needs}
 use Rattle.lists.specs.Tab.{each}
 use Rattle.lists.proofs.Tab.{length-each}
-use Rattle.draw.specs.Text.{pixelOf, rowAfter}
+use Rattle.draw.specs.Text.{glyphColumns, pixelOf, rowAfter}
 use Rattle.draw.proofs.BitLaws.{carried, runFrom, runTo, carried-le, beside-lt, zeros-le, zeros-carried-le}
 use Rattle.draw.proofs.LineLaws.{cell-done, cell-turn}
 use Rattle.draw.proofs.text.draw_cell.Statement.{statement}
@@ -18,22 +18,25 @@ use Rattle.draw.proofs.text.draw_cell.Tie as tie
 
 abbrev Inv-loop : tie.InvT-loop
 Inv-loop line₀ bits z x colour rest₀ line rest =
-    (rest < 256) × (each (rowAfter (pixelOf rest) 8 z x colour) line ≡ each (rowAfter (pixelOf bits) 8 z x colour) line₀)
+    (rest < 256)
+    × (each (rowAfter (pixelOf rest) glyphColumns z x colour) line
+    ≡ each (rowAfter (pixelOf bits) glyphColumns z x colour) line₀)
 
 abbrev μ-loop : tie.MeasureT-loop
 μ-loop line₀ bits z x colour rest₀ line rest = rest
 
 -- how far a place of a bit, a column in pixels can go
-low : (c : tie.In-loop Inv-loop μ-loop) → trailingZeros 64 (c .before .loop .rest) ≤ 8
+low : (c : tie.In-loop Inv-loop μ-loop) → trailingZeros 64 (c .before .loop .rest) ≤ glyphColumns
 low c = search (zeros-le, needs)
 
-high : (c : tie.In-loop Inv-loop μ-loop) → trailingZeros 64 (carried (c .before .loop .rest)) ≤ 8
+high : (c : tie.In-loop Inv-loop μ-loop) → trailingZeros 64 (carried (c .before .loop .rest)) ≤ glyphColumns
 high c = search (zeros-carried-le, needs)
 
-scaled-le : (n z : ℕ) → z ≤ 8 → (8 - n) * z ≤ 64
+scaled-le : (n z : ℕ) → z ≤ 8 → (glyphColumns - n) * z ≤ 64
 scaled-le n z h = mul-le-mul {n₂ = 8} {m₂ = 8} (omega arith) h
 
-from : (c : tie.In-loop Inv-loop μ-loop) → runFrom (c .before .loop .rest) * c .before .before .before .before .args .z ≤ 64
+from : (c : tie.In-loop Inv-loop μ-loop)
+    → runFrom (c .before .loop .rest) * c .before .before .before .before .args .z ≤ 64
 from c = scaled-le _ _ (omega arith)
 
 to : (c : tie.In-loop Inv-loop μ-loop) → runTo (c .before .loop .rest) * c .before .before .before .before .args .z ≤ 64
@@ -83,8 +86,11 @@ loop-less c = search (beside-lt, needs)
 
 loop-again : tie.Need-loop-again Inv-loop μ-loop
 loop-again c =
-    let i = c .before .before .before .before in
-    (omega (arith, beside-lt (i .before .loop .rest) (i .loop-test .taken) (i .before .loop .inv .0)), search (cell-turn, needs))
+    let i = c .before .before .before .before in (
+      omega (arith, beside-lt (i .before .loop .rest) (i .loop-test .taken) (i .before .loop .inv .0)),
+      search
+          (cell-turn, needs),
+    )
 
 same-length : tie.Need-same-length Inv-loop μ-loop
 same-length c = sym (length-each _ _) ∙ ap length (c .before .loop .inv .1) ∙ length-each _ _

@@ -1,6 +1,6 @@
 -- `text::draw_string` meets its contract: before each turn i characters are drawn, the next cell begins
 -- where they end, and what is left of the string gives how many it shows; from the line's end on it
--- changes nothing. The measure is 32 - i. Assumes nothing.
+-- changes nothing. The measure is the characters left. Assumes nothing.
 use mathlib.Core.Path.{_≡_, refl, sym, ap, _∙_}
 use mathlib.Core.List.{List}
 use Prim.Native.Nat.{ℕ, _+_, _-_, _*_, _≤_, _<_}
@@ -12,21 +12,23 @@ use Rattle.lists.specs.Tab.{each}
 use Rattle.lists.specs.Zero.{zeroFrom}
 use Rattle.lists.proofs.Tab.{length-each}
 use Rattle.lists.proofs.Zero.{zero-passes}
-use Rattle.draw.specs.Text.{character, shownOf, rowAfter, stringPixel}
+use Rattle.tables.specs.Geometry.{stringLen}
+use Rattle.draw.specs.Text.{glyphColumns, character, charactersOf, rowAfter, stringPixel}
 use Rattle.draw.proofs.LineLaws.{row-line-none, string-more, string-past, string-stops, string-ends}
 use Rattle.draw.proofs.text.draw_string.Statement.{statement}
 use Rattle.draw.proofs.text.draw_string.Tie as tie
 
 abbrev Inv-loop : tie.InvT-loop
 Inv-loop line₀ strings font n row z x colour i₀ at₀ line i at =
-    (i ≤ 32) × (at ≤ x + 64 * i) × (at ≡ x + 8 * i * z) × (zeroFrom (32 - i) (character strings n) i ≡ shownOf strings n)
-    × (line ≡ each (rowAfter (stringPixel strings font n row) (8 * i) z x colour) line₀)
+    (i ≤ stringLen) × (at ≤ x + 64 * i) × (at ≡ x + glyphColumns * i * z)
+    × (zeroFrom (stringLen - i) (character strings n) i ≡ charactersOf strings n)
+    × (line ≡ each (rowAfter (stringPixel strings font n row) (glyphColumns * i) z x colour) line₀)
 
 abbrev μ-loop : tie.MeasureT-loop
-μ-loop line₀ strings font n row z x colour i₀ at₀ line i at = 32 - i
+μ-loop line₀ strings font n row z x colour i₀ at₀ line i at = stringLen - i
 
 loop-holds : tie.Need-loop-holds Inv-loop μ-loop
-unfolding shownOf
+unfolding charactersOf
 loop-holds c = (omega arith, omega arith, omega arith, refl, search (row-line-none, needs))
 
 same-length : tie.Need-same-length Inv-loop μ-loop
@@ -48,7 +50,8 @@ same-length-2 : tie.Need-same-length-2 Inv-loop μ-loop
 same-length-2 c = ap length (c .before .before .before .before .loop .inv .4) ∙ length-each _ _
 
 returns-2 : tie.Need-returns-2 Inv-loop μ-loop
-returns-2 c = let h : c .before .before .before .before .loop .i < 32 = omega arith in search (string-stops, needs)
+returns-2 c =
+    let h : c .before .before .before .before .loop .i < stringLen = omega arith in search (string-stops, needs)
 
 glyph-row-requires : tie.Need-glyph-row-requires Inv-loop μ-loop
 glyph-row-requires c κs = search needs
@@ -68,16 +71,20 @@ add-i c = search needs
 loop-less : tie.Need-loop-less Inv-loop μ-loop
 loop-less c = search needs
 
-next-at : (z x i at : ℕ) → at ≡ x + 8 * i * z → at + 8 * z ≡ x + 8 * (i + 1) * z
-next-at z x i at e = let q : 8 * (i + 1) ≡ 8 * i + 8 = omega arith in rw q (omega (arith, add-mul (8 * i) 8 z))
+next-at : (z x i at : ℕ) → at ≡ x + glyphColumns * i * z → at + glyphColumns * z ≡ x + glyphColumns * (i + 1) * z
+next-at z x i at e =
+    let q : glyphColumns * (i + 1) ≡ glyphColumns * i + glyphColumns = omega arith in
+    rw q (omega (arith, add-mul (glyphColumns * i) glyphColumns z))
 
-string-passes : (strings : List ℕ) (n i : ℕ) → i < 32 → (character strings n i ≡ 0 → ⊥) → zeroFrom (32 - i) (character strings n) i ≡ shownOf strings n
-    → zeroFrom (32 - (i + 1)) (character strings n) (i + 1) ≡ shownOf strings n
-string-passes strings n i h ne left = sym (zero-passes 32 (character strings n) i h ne) ∙ left
+string-passes : (strings : List ℕ) (n i : ℕ) → i < stringLen → (character strings n i ≡ 0 → ⊥)
+    → zeroFrom (stringLen - i) (character strings n) i ≡ charactersOf strings n
+    → zeroFrom (stringLen - (i + 1)) (character strings n) (i + 1) ≡ charactersOf strings n
+string-passes strings n i h ne left = sym (zero-passes stringLen (character strings n) i h ne) ∙ left
 
 loop-again : tie.Need-loop-again Inv-loop μ-loop
 loop-again c =
-    let h : c .before .before .before .before .before .before .before .before .before .loop .i < 32 = omega arith in
+    let h : c .before .before .before .before .before .before .before .before .before .loop .i < stringLen = omega arith
+    in
     (omega arith, omega arith, search (next-at, needs), search (string-passes, needs), search (string-more, needs))
 
 same-length-3 : tie.Need-same-length-3 Inv-loop μ-loop

@@ -7,14 +7,8 @@ use Rattle.draw.proofs.LineLaws.{text-line-above, text-line-below, text
 use Rattle.draw.proofs.text.draw_text.Statement.{statement}
 use Rattle.draw.proofs.text.draw_text.Tie as tie
 
-mul-word : tie.Need-mul-word
-mul-word c = search needs
-
-add-word : tie.Need-add-word
-add-word c = search needs
-
-word-requires : tie.Need-word-requires
-word-requires c κs = search needs
+word-of-requires : tie.Need-word-of-requires
+word-of-requires c κs = search needs
 
 scale-requires : tie.Need-scale-requires
 scale-requires c κs = search needs
@@ -31,32 +25,17 @@ add-if2 c = search needs
 returns-2 : tie.Need-returns-2
 returns-2 c = search (text-line-below, needs)
 
-mul-word-2 : tie.Need-mul-word-2
-mul-word-2 c = search needs
-
-add-word-2 : tie.Need-add-word-2
-add-word-2 c = search needs
-
-word-requires-2 : tie.Need-word-requires-2
-word-requires-2 c κs = search needs
+word-of-requires-2 : tie.Need-word-of-requires-2
+word-of-requires-2 c κs = search needs
 
 returns-3 : tie.Need-returns-3
 returns-3 c = search (text-line-number, needs)
 
-mul-word-3 : tie.Need-mul-word-3
-mul-word-3 c = search needs
+word-of-requires-3 : tie.Need-word-of-requires-3
+word-of-requires-3 c κs = search needs
 
-word-requires-3 : tie.Need-word-requires-3
-word-requires-3 c κs = search needs
-
-mul-word-4 : tie.Need-mul-word-4
-mul-word-4 c = search needs
-
-add-word-3 : tie.Need-add-word-3
-add-word-3 c = search needs
-
-word-requires-4 : tie.Need-word-requires-4
-word-requires-4 c κs = search needs
+word-of-requires-4 : tie.Need-word-of-requires-4
+word-of-requires-4 c κs = search needs
 
 div-draw-string : tie.Need-div-draw-string
 div-draw-string c = search needs
@@ -78,23 +57,16 @@ pub draw-text-spec : {M : Type 1} → statement M
 draw-text-spec =
     tie.close
     (tie.spec
-    mul-word
-    add-word
-    word-requires
+    word-of-requires
     scale-requires
     returns
     mul-if2
     add-if2
     returns-2
-    mul-word-2
-    add-word-2
-    word-requires-2
+    word-of-requires-2
     returns-3
-    mul-word-3
-    word-requires-3
-    mul-word-4
-    add-word-3
-    word-requires-4
+    word-of-requires-3
+    word-of-requires-4
     div-draw-string
     cast-draw-string
     draw-string-requires

@@ -7,7 +7,8 @@ use Rattle.figures.proofs.script.run.Statement.{statement}
 use Rattle.figures.proofs.script.run.Tie as tie
 
 abbrev Inv-loop : tie.InvT-loop
-Inv-loop tables₀ pictures₀ out₀ text₀ turns₀ s₀ more₀ tables pictures out text turns s more = (length tables ≡ length tables₀) × (length pictures ≡ length pictures₀) × (length out ≡ length out₀)
+Inv-loop tables₀ pictures₀ out₀ text₀ turns₀ s₀ more₀ tables pictures out text turns s more =
+    (length tables ≡ length tables₀) × (length pictures ≡ length pictures₀) × (length out ≡ length out₀)
 
 abbrev μ-loop : tie.MeasureT-loop
 μ-loop tables₀ pictures₀ out₀ text₀ turns₀ s₀ more₀ tables pictures out text turns s more = turns

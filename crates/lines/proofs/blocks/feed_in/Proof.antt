@@ -1,77 +1,108 @@
--- `lines::blocks::feed_in` meets its contract: the bytes up to the line feed are kept, and the line
--- is done where one is found. Assumes nothing.
+-- `lines::blocks::feed_in` meets its contract: what the turns so far have left leads to what the call
+-- leaves. The measure is what is left of the block. Assumes nothing.
 use borrow.Author.Needs.{needs}
 use native.Mathlib.Omega.{arith}
-use mathlib.Core.Path.{sym}
-use lib.ListN.{take}
-use lib.Seq.{length-take-le}
-use Rattle.lines.proofs.BlockLaws.{feed-ended, feed-open}
+use Prim.Native.Nat.{_-_, _≤_}
+use mathlib.Core.Path.{_≡_, refl, sym, _∙_}
+use lib.ListN.{length, take}
+use Rattle.lists.specs.Over.{over}
+use Rattle.lists.proofs.Over.{over-none}
+use Rattle.lines.specs.Sizes.{mostKept, outLen}
+use Rattle.lines.specs.Blocks.{feedOf}
+use Rattle.lines.specs.Engine.Turns.{batchAt}
+use Rattle.lines.proofs.BlockLaws.{Leads, leads-first, goesOn-inside, goesOn-first, feed-turn, feed-is}
+use Rattle.lines.proofs.BlockLaws.{over-over}
 use Rattle.lines.proofs.blocks.feed_in.Statement.{statement}
 use Rattle.lines.proofs.blocks.feed_in.Tie as tie
 
-find-requires : tie.Need-find-requires
-find-requires c κs = search needs
+abbrev Inv-loop : tie.InvT-loop
+Inv-loop tables₀ text₀ block out₀ c₀ tables text out c =
+    Leads block (batchAt c tables text out) (feedOf (c₀ .going) tables₀ text₀ block)
+    × (out ≡ over (take (c .count) out) out₀) × (c .used ≤ length block) × (c .count ≤ outLen)
+    × (c .used ≡ 0 → c .count ≡ 0) × (length tables ≡ length tables₀) × (length text ≡ mostKept)
+    × (length out ≡ outLen)
 
-slice-aggregate-keep : tie.Need-slice-aggregate-keep
-slice-aggregate-keep c = sym (length-take-le _ (c .before .before .before .before .before .before .before .args .block .now) (c .before .before .find .ensures .1))
+abbrev μ-loop : tie.MeasureT-loop
+μ-loop tables₀ text₀ block out₀ c₀ tables text out c = length block - c .used
 
-keep-requires : tie.Need-keep-requires
-keep-requires c κs = search needs
+loop-holds : tie.Need-loop-holds Inv-loop μ-loop
+loop-holds c =
+    let a = c .before .before .before .before in (
+      leads-first
+          (a .args .going) (a .args .tables .now) (a .args .text .now) (a .args .block .now) (a .args .out .now),
+      over-none (a .args .out .now),
+      omega arith,
+      omega arith,
+      (λ _. refl),
+      refl,
+      a .pre .0,
+      a .pre .1,
+    )
 
-slice-reshare-prefix-run-in : tie.Need-slice-reshare-prefix-run-in
-slice-reshare-prefix-run-in c = search needs
+goes-on-requires : tie.Need-goes-on-requires Inv-loop μ-loop
+goes-on-requires c κs = search needs
 
-slice-aggregate-run-in : tie.Need-slice-aggregate-run-in
-slice-aggregate-run-in c =
-    let k = c .before .before .before .before .before .keep in
-    sym (length-take-le _ (k .last .0) (omega (arith, k .ensures .1, k .kept .0, c .before .before .before .before .before .before .before .before .before .before .before .before .before .pre .0)))
+turn-requires : tie.Need-turn-requires Inv-loop μ-loop
+turn-requires c κs =
+    let i = c .before .before .before .before .before .loop .inv in
+    let b =
+    goesOn-inside _ _ _ (sym (c .before .before .before .before .goes-on .ensures)
+    ∙ c .before .before .before .if1 .taken) in
+    (b .0, b .1, i .6, i .7)
 
-run-in-requires : tie.Need-run-in-requires
-run-in-requires c κs = search needs
+loop-less : tie.Need-loop-less Inv-loop μ-loop
+loop-less c =
+    let t = c .before .before .before .before .before .before .turn .ensures in omega (arith, t .1 .0 .0, t .1 .0 .1)
 
-add-t23 : tie.Need-add-t23
-add-t23 c = omega (arith, c .before .before .before .before .before .before .before .before .before .if1 .taken, c .before .before .before .before .before .before .before .before .before .before .before .before .before .before .before .before .before .before .before .before)
+loop-again : tie.Need-loop-again Inv-loop μ-loop
+loop-again c =
+    let l = c .before .before .before .before .before .before .before .before .before .before .before .before .loop in
+    let e =
+    sym (c .before .before .before .before .before .before .before .before .before .before .before .goes-on .ensures)
+    ∙ c .before .before .before .before .before .before .before .before .before .before .if1 .taken in
+    let t = c .before .before .before .before .before .before .turn in (
+      feed-turn _ (l .c) (l .tables) (l .text) (l .out) _ (omega (arith, l .inv .3, l .inv .7)) (l .inv .0) (t .result)
+          (t .last .1 .0) (t .last .1 .1 .0) (t .last .1 .1 .1 .1 .0) e (t .ensures .0) (t .ensures .1 .0 .0),
+      over-over _ (l .out) (t .last .1 .1 .1 .1 .0) _ (t .result .count) (t .ensures .1 .0 .2)
+          (omega (arith, t .ensures .1 .0 .3, l .inv .7)) (l .inv .1) (t .ensures .1 .1) (t .kept .1 .1 .1 .1 .0),
+      t .ensures .1 .0 .1,
+      t .ensures .1 .0 .3,
+      (λ z. omega (arith, t .ensures .1 .0 .0)),
+      search needs,
+      search needs,
+      search needs,
+    )
 
-same-length : tie.Need-same-length
+same-length : tie.Need-same-length Inv-loop μ-loop
 same-length c = search needs
 
-same-length-2 : tie.Need-same-length-2
+same-length-2 : tie.Need-same-length-2 Inv-loop μ-loop
 same-length-2 c = search needs
 
-same-length-3 : tie.Need-same-length-3
+same-length-3 : tie.Need-same-length-3 Inv-loop μ-loop
 same-length-3 c = search needs
 
-returns : tie.Need-returns
+returns : tie.Need-returns Inv-loop μ-loop
 returns c =
-    let a = c .before .before .before .before .before .before .before .before .before .before .before .before .before .before .before .before .before .before .before .before .args in
-    let k = c .before .before .before .before .before .before .before .before .before .before .before .before .keep .ensures in
-    let r = c .before .before .before .before .before .run-in .ensures in
-    feed-ended (a .state) (a .tables .now) (take (a .held) (a .text .now)) (a .block .now) (a .text .now) _ _ _ (c .before .before .before .before .before .before .before .before .before .before .before .before .before .before .before .find .ensures .0) (k .0) (k .2) _ _ _ _ (c .before .before .before .before .before .before .before .before .before .if1 .taken) (r .0) (r .1 .0) (r .1 .1 .0) (r .1 .1 .1)
-
-same-length-4 : tie.Need-same-length-4
-same-length-4 c = search needs
-
-returns-2 : tie.Need-returns-2
-returns-2 c =
-    let a = c .before .before .before .before .before .before .before .before .before .before .before .args in
-    let k = c .before .before .before .keep .ensures in
-    let f = c .before .before .before .before .before .before .find .ensures in
-    feed-open (a .state) (a .tables .now) (take (a .held) (a .text .now)) (a .block .now) (a .text .now) _ _ _ (f .0) (k .0) (k .2) _ (c .if1 .left) (f .1)
+    let l = c .before .before .loop in
+    let e = sym (c .before .goes-on .ensures) ∙ c .if1 .left in
+    let r =
+    feed-is _ (l .c) (l .tables) (l .text) (l .out) _ (omega (arith, l .inv .3, l .inv .7)) (l .inv .0) _ e
+    (l .inv .1) in
+    (r .0, (r .1 .0, (r .1 .1 .0, (r .1 .1 .1, ((λ h. goesOn-first _ _ _ e (l .inv .4) h), l .inv .2, l .inv .3)))))
 
 pub feed-in-spec : {M : Type 1} → statement M
 feed-in-spec =
     tie.close
     (tie.spec
-    find-requires
-    slice-aggregate-keep
-    keep-requires
-    slice-reshare-prefix-run-in
-    slice-aggregate-run-in
-    run-in-requires
-    add-t23
+    Inv-loop
+    μ-loop
+    loop-holds
+    goes-on-requires
+    turn-requires
+    loop-less
+    loop-again
     same-length
     same-length-2
     same-length-3
-    returns
-    same-length-4
-    returns-2)
+    returns)

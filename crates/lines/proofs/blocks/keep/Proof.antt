@@ -19,7 +19,9 @@ least-requires-2 c κs = search needs
 slice-aggregate-copy : tie.Need-slice-aggregate-copy
 slice-aggregate-copy c =
     let a = c .before .before .before .before .before in
-    sym (part-long (a .args .text .now) (a .args .part .now) (a .args .held) (c .before .before .least .result) (c .before .least2 .result) (a .pre) (omega (arith, c .before .before .least .ensures)) (omega (arith, c .before .least2 .ensures)))
+    sym (part-long (a .args .text .now) (a .args .part .now) (a .args .held) (c .before .before .least .result)
+    (c .before .least2 .result) (a .pre) (omega (arith, c .before .before .least .ensures))
+    (omega (arith, c .before .least2 .ensures)))
 
 sub-copy : tie.Need-sub-copy
 sub-copy c = search needs
@@ -33,7 +35,9 @@ part-copy-end c = search needs
 copy-requires : tie.Need-copy-requires
 copy-requires c κs =
     let a = c .before .before .before .before .before .before in
-    kept-room (a .args .text .now) (a .args .part .now) (a .args .held) (c .before .before .before .least .result) (c .before .before .least2 .result) (a .pre) (omega (arith, c .before .before .before .least .ensures)) (omega (arith, c .before .before .least2 .ensures))
+    kept-room (a .args .text .now) (a .args .part .now) (a .args .held) (c .before .before .before .least .result)
+    (c .before .before .least2 .result) (a .pre) (omega (arith, c .before .before .before .least .ensures))
+    (omega (arith, c .before .before .least2 .ensures))
 
 add-result : tie.Need-add-result
 add-result c = search needs
@@ -46,9 +50,11 @@ returns c =
     let a = c .before .before .before .before .before .before .before .before .before in
     let n = c .before .before .before .before .before .before .least in
     let m = c .before .before .before .before .before .least2 in (
-      kept-long (a .args .text .now) (a .args .part .now) (a .args .held) (n .result) (m .result) (a .pre) (omega (arith, n .ensures)) (omega (arith, m .ensures)),
+      kept-long (a .args .text .now) (a .args .part .now) (a .args .held) (n .result) (m .result) (a .pre)
+          (omega (arith, n .ensures)) (omega (arith, m .ensures)),
       omega (arith, n .ensures, m .ensures),
-      kept-over (a .args .text .now) (a .args .part .now) (a .args .held) (n .result) (m .result) (a .pre) (omega (arith, n .ensures)) (omega (arith, m .ensures)) _ (c .before .before .copy .ensures .1),
+      kept-over (a .args .text .now) (a .args .part .now) (a .args .held) (n .result) (m .result) (a .pre)
+          (omega (arith, n .ensures)) (omega (arith, m .ensures)) _ (c .before .before .copy .ensures .1),
     )
 
 pub keep-spec : {M : Type 1} → statement M

@@ -13,7 +13,8 @@ use Rattle.lines.proofs.hex.print_bytes.Statement.{statement}
 use Rattle.lines.proofs.hex.print_bytes.Tie as tie
 
 abbrev Inv-loop : tie.InvT-loop
-Inv-loop bytes out₀ i₀ out i = (i ≤ length bytes) × (length out ≡ length out₀) × (out ≡ over (digitsOf (take i bytes)) out₀)
+Inv-loop bytes out₀ i₀ out i =
+    (i ≤ length bytes) × (length out ≡ length out₀) × (out ≡ over (digitsOf (take i bytes)) out₀)
 
 abbrev μ-loop : tie.MeasureT-loop
 μ-loop bytes out₀ i₀ out i = length bytes - i

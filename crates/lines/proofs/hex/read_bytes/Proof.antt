@@ -13,7 +13,9 @@ use Rattle.lines.proofs.hex.read_bytes.Statement.{statement}
 use Rattle.lines.proofs.hex.read_bytes.Tie as tie
 
 abbrev Inv-loop : tie.InvT-loop
-Inv-loop text bytes₀ i₀ bytes i = (2 * i ≤ length text) × (length bytes ≡ length bytes₀) × (isHex (drop (2 * i) text) ≡ isHex text) × (take i bytes ++ bytesIn (drop (2 * i) text) ≡ bytesIn text)
+Inv-loop text bytes₀ i₀ bytes i =
+    (2 * i ≤ length text) × (length bytes ≡ length bytes₀) × (isHex (drop (2 * i) text) ≡ isHex text)
+    × (take i bytes ++ bytesIn (drop (2 * i) text) ≡ bytesIn text)
 
 abbrev μ-loop : tie.MeasureT-loop
 μ-loop text bytes₀ i₀ bytes i = length text - i

@@ -28,7 +28,8 @@ part-frame-start : tie.Need-part-frame-start
 part-frame-start c = search needs
 
 part-frame-end : tie.Need-part-frame-end
-part-frame-end c = omega (arith, c .lent-len .ensures .1, reply-long (c .before .before .before .before .before .before .pre))
+part-frame-end c =
+    omega (arith, c .lent-len .ensures .1, reply-long (c .before .before .before .before .before .before .pre))
 
 frame-requires : tie.Need-frame-requires
 frame-requires c κs = search needs
@@ -38,24 +39,33 @@ refuse-requires-2 c κs =
     let a = c .before .before .before .before .before .before .before .before .before .before .before .before .before in
     let n = c .before .before .before .before .before .before .before .lent-len .ensures in
     let f = c .before .before .before .before .before .frame in
-    reply-kept (a .args .t) (a .args .tables .now) (a .args .pictures .now) _ (a .args .reply .now) (f .result) (c .before .before .before .before .before .before .before .before .if1 .left) (n .0) (n .1) (a .pre) (f .ensures .0) _ (f .ensures .1) (f .kept .1 .1 .1 .0)
+    reply-kept (a .args .t) (a .args .tables .now) (a .args .pictures .now) _ (a .args .reply .now) (f .result)
+    (c .before .before .before .before .before .before .before .before .if1 .left) (n .0) (n .1) (a .pre)
+    (f .ensures .0) _ (f .ensures .1) (f .kept .1 .1 .1 .0)
 
 same-length-2 : tie.Need-same-length-2
 same-length-2 c = search needs
 
 returns-2 : tie.Need-returns-2
 returns-2 c =
-    let a = c .before .before .before .before .before .before .before .before .before .before .before .before .before .before .before .before in
+    let a =
+    c .before .before .before .before .before .before .before .before .before .before .before .before .before .before
+    .before .before in
     let n = c .before .before .before .before .before .before .before .before .before .before .lent-len .ensures in
     let f = c .before .before .before .before .before .before .before .before .frame in
-    frame-stopped (a .args .t) (a .args .tables .now) (a .args .pictures .now) _ (a .args .reply .now) (f .result) (c .before .before .before .before .before .before .before .before .before .before .before .if1 .left) (n .0) (n .1) (a .pre) (f .ensures .0) _ _ (c .before .before .before .before .if2 .taken) (c .before .before .refuse2 .ensures)
+    frame-stopped (a .args .t) (a .args .tables .now) (a .args .pictures .now) _ (a .args .reply .now) (f .result)
+    (c .before .before .before .before .before .before .before .before .before .before .before .if1 .left) (n .0)
+    (n .1) (a .pre) (f .ensures .0) _ _ (c .before .before .before .before .if2 .taken)
+    (c .before .before .refuse2 .ensures)
 
 head-requires : tie.Need-head-requires
 head-requires c κs =
     let a = c .before .before .before .before .before .before .before .before .before .before .before .before .before in
     let n = c .before .before .before .before .before .before .before .lent-len .ensures in
     let f = c .before .before .before .before .before .frame in
-    reply-kept (a .args .t) (a .args .tables .now) (a .args .pictures .now) _ (a .args .reply .now) (f .result) (c .before .before .before .before .before .before .before .before .if1 .left) (n .0) (n .1) (a .pre) (f .ensures .0) _ (f .ensures .1) (f .kept .1 .1 .1 .0)
+    reply-kept (a .args .t) (a .args .tables .now) (a .args .pictures .now) _ (a .args .reply .now) (f .result)
+    (c .before .before .before .before .before .before .before .before .if1 .left) (n .0) (n .1) (a .pre)
+    (f .ensures .0) _ (f .ensures .1) (f .kept .1 .1 .1 .0)
 
 add-t16 : tie.Need-add-t16
 add-t16 c = search needs
@@ -65,10 +75,15 @@ same-length-3 c = search needs
 
 returns-3 : tie.Need-returns-3
 returns-3 c =
-    let a = c .before .before .before .before .before .before .before .before .before .before .before .before .before .before .before .before in
+    let a =
+    c .before .before .before .before .before .before .before .before .before .before .before .before .before .before
+    .before .before in
     let n = c .before .before .before .before .before .before .before .before .before .before .lent-len .ensures in
     let f = c .before .before .before .before .before .before .before .before .frame in
-    frame-painted (a .args .t) (a .args .tables .now) (a .args .pictures .now) _ (a .args .reply .now) (f .result) (c .before .before .before .before .before .before .before .before .before .before .before .if1 .left) (n .0) (n .1) (a .pre) (f .ensures .0) _ (f .ensures .1) (f .kept .1 .1 .1 .0) _ (c .before .before .before .before .if2 .left) (c .before .before .head .ensures)
+    frame-painted (a .args .t) (a .args .tables .now) (a .args .pictures .now) _ (a .args .reply .now) (f .result)
+    (c .before .before .before .before .before .before .before .before .before .before .before .if1 .left) (n .0)
+    (n .1) (a .pre) (f .ensures .0) _ (f .ensures .1) (f .kept .1 .1 .1 .0) _
+    (c .before .before .before .before .if2 .left) (c .before .before .head .ensures)
 
 pub frame-spec : {M : Type 1} → statement M
 frame-spec =

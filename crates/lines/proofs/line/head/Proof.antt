@@ -50,7 +50,10 @@ same-length c = search needs
 returns : tie.Need-returns
 returns c =
     let a = c .before .before .before .before .before .before .before .before .before .args in
-    head-is (a .state) _ _ _ (a .reply .now) _ (c .before .before .before .before .before .before .before .error-word .ensures) (c .before .before .before .before .before .before .output-width .ensures) (c .before .before .before .before .before .output-height .ensures) (c .before .before .copy .ensures .1)
+    head-is (a .state) _ _ _ (a .reply .now) _
+    (c .before .before .before .before .before .before .before .error-word .ensures)
+    (c .before .before .before .before .before .before .output-width .ensures)
+    (c .before .before .before .before .before .output-height .ensures) (c .before .before .copy .ensures .1)
 
 pub head-spec : {M : Type 1} → statement M
 head-spec =

@@ -25,10 +25,17 @@ mul-n-2 : tie.Need-mul-n-2
 mul-n-2 c = record { fits = area-bytes (omega arith) (omega arith) }
 
 returns : tie.Need-returns
-returns c = (lentFor-all (c .before .before .output-width .ensures) (c .before .output-height .ensures) (c .if1 .taken), c .if1 .taken)
+returns c = (
+  lentFor-all (c .before .before .output-width .ensures) (c .before .output-height .ensures) (c .if1 .taken),
+  c .if1 .taken,
+)
 
 returns-2 : tie.Need-returns-2
-returns-2 c = (lentFor-most (c .before .before .output-width .ensures) (c .before .output-height .ensures) (c .if1 .left), omega arith)
+returns-2 c = (
+  lentFor-most (c .before .before .output-width .ensures) (c .before .output-height .ensures) (c .if1 .left),
+  omega
+      arith,
+)
 
 pub lent-len-spec : {M : Type 1} → statement M
 lent-len-spec =

@@ -21,7 +21,9 @@ same-length : tie.Need-same-length
 same-length c = search needs
 
 returns : tie.Need-returns
-returns c = text-printed _ _ _ (c .before .before .before .before .before .before .pre .0) (c .before .before .before .before .before .before .pre .1) (c .before .before .print-bytes .ensures)
+returns c =
+    text-printed _ _ _ (c .before .before .before .before .before .before .pre .0)
+    (c .before .before .before .before .before .before .pre .1) (c .before .before .print-bytes .ensures)
 
 pub print-spec : {M : Type 1} → statement M
 print-spec =

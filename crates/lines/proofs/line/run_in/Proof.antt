@@ -22,12 +22,30 @@ array-share-prefix-reply c = search needs
 slice-aggregate-print : tie.Need-slice-aggregate-print
 slice-aggregate-print c =
     let k = c .before .before .before .before .before .answer in
-    sym (length-take-le _ (k .last .1 .1 .1 .0) (omega (arith, k .ensures .fits, k .kept .1 .1 .1 .0, c .before .before .before .before .before .before .before .before .no-reply .ensures .0)))
+    sym (length-take-le _ (k .last .1 .1 .1 .0)
+    (omega (
+      arith,
+      k .ensures .fits,
+      k .kept .1 .1 .1 .0,
+      c .before .before .before .before .before .before .before .before .no-reply .ensures .0,
+    )))
 
 print-requires : tie.Need-print-requires
 print-requires c κs =
-    let k = c .before .before .before .before .before .before .answer in
-    (omega (arith, k .ensures .fits, length-take-le (k .result .length) (k .last .1 .1 .1 .0) (omega (arith, k .ensures .fits, k .kept .1 .1 .1 .0, c .before .before .before .before .before .before .before .before .before .no-reply .ensures .0))), c .before .before .before .before .before .before .before .before .before .before .before .before .before .pre)
+    let k = c .before .before .before .before .before .before .answer in (
+      omega (
+        arith,
+        k .ensures .fits,
+        length-take-le (k .result .count) (k .last .1 .1 .1 .0)
+            (omega (
+              arith,
+              k .ensures .fits,
+              k .kept .1 .1 .1 .0,
+              c .before .before .before .before .before .before .before .before .before .no-reply .ensures .0,
+            )),
+      ),
+      c .before .before .before .before .before .before .before .before .before .before .before .before .before .pre,
+    )
 
 same-length : tie.Need-same-length
 same-length c = search needs
@@ -37,8 +55,12 @@ same-length-2 c = search needs
 
 returns : tie.Need-returns
 returns c =
-    let a = c .before .before .before .before .before .before .before .before .before .before .before .before .before .before .before .before .args in
-    line-is (a .state) (a .tables .now) (a .text .now) _ _ _ _ _ _ (c .before .before .before .before .before .before .before .before .before .answer .ensures) (c .before .before .print .ensures .0) (c .before .before .print .ensures .1)
+    let a =
+    c .before .before .before .before .before .before .before .before .before .before .before .before .before .before
+    .before .before .args in
+    line-is (a .state) (a .tables .now) (a .text .now) _ _ _ _ _ _
+    (c .before .before .before .before .before .before .before .before .before .answer .ensures)
+    (c .before .before .print .ensures .0) (c .before .before .print .ensures .1)
 
 pub run-in-spec : {M : Type 1} → statement M
 run-in-spec =

@@ -21,25 +21,32 @@ same-length c = search needs
 returns : tie.Need-returns
 returns c =
     let a = c .before .before .before .before .before .before .before .before .before .args in
-    work-bad (a .state) (a .tables .now) (a .b .now) _ (c .before .before .before .before .before .parts-of .ensures .0) _ _ (not-true _ (c .before .before .before .before .if1 .taken)) (c .before .before .refuse .ensures)
+    work-bad (a .state) (a .tables .now) (a .b .now) _ (c .before .before .before .before .before .parts-of .ensures .0)
+    _ _ (not-true _ (c .before .before .before .before .if1 .taken)) (c .before .before .refuse .ensures)
 
 add-at : tie.Need-add-at
 add-at c = search needs
 
 run-requires : tie.Need-run-requires
-run-requires c κs =
-    (ap (λ (q : Parts). q .writes) (c .before .before .before .parts-of .ensures .0), c .before .before .before .parts-of .ensures .1)
+run-requires c κs = (
+  ap (λ (q : Parts). q .writes) (c .before .before .before .parts-of .ensures .0),
+  c .before .before .before .parts-of .ensures .1,
+)
 
 start-requires : tie.Need-start-requires
 start-requires c κs = search needs
 
 sub-frame : tie.Need-sub-frame
 sub-frame c =
-    picture-room (c .before .before .before .before .before .before .before .before .before .before .before .before .args .b .now) _ (c .before .before .before .before .before .before .before .before .parts-of .ensures .0) (not-false _ (c .before .before .before .before .before .before .before .if1 .left))
+    picture-room (c .before .before .before .before .before .before .before .before .before .before .before .before
+    .args .b .now) _ (c .before .before .before .before .before .before .before .before .parts-of .ensures .0)
+    (not-false _ (c .before .before .before .before .before .before .before .if1 .left))
 
 part-frame-start : tie.Need-part-frame-start
 part-frame-start c =
-    picture-room (c .before .before .before .before .before .before .before .before .before .before .before .before .args .b .now) _ (c .before .before .before .before .before .before .before .before .parts-of .ensures .0) (not-false _ (c .before .before .before .before .before .before .before .if1 .left))
+    picture-room (c .before .before .before .before .before .before .before .before .before .before .before .before
+    .args .b .now) _ (c .before .before .before .before .before .before .before .before .parts-of .ensures .0)
+    (not-false _ (c .before .before .before .before .before .before .before .if1 .left))
 
 part-frame-end : tie.Need-part-frame-end
 part-frame-end c = search needs
@@ -55,8 +62,15 @@ same-length-3 c = search needs
 
 returns-2 : tie.Need-returns-2
 returns-2 c =
-    let a = c .before .before .before .before .before .before .before .before .before .before .before .before .before .before .before .before .before .args in
-    work-is (a .state) (a .tables .now) (a .b .now) _ (c .before .before .before .before .before .before .before .before .before .before .before .before .before .parts-of .ensures .0) _ _ _ _ _ _ (not-false _ (c .before .before .before .before .before .before .before .before .before .before .before .before .if1 .left)) (c .before .before .before .before .before .before .before .before .before .run .ensures) (c .before .before .before .before .before .before .start .ensures) refl (c .before .before .frame .ensures)
+    let a =
+    c .before .before .before .before .before .before .before .before .before .before .before .before .before .before
+    .before .before .before .args in
+    work-is (a .state) (a .tables .now) (a .b .now) _
+    (c .before .before .before .before .before .before .before .before .before .before .before .before .before
+    .parts-of .ensures .0) _ _ _ _ _ _
+    (not-false _ (c .before .before .before .before .before .before .before .before .before .before .before .before
+    .if1 .left)) (c .before .before .before .before .before .before .before .before .before .run .ensures)
+    (c .before .before .before .before .before .before .start .ensures) refl (c .before .before .frame .ensures)
 
 pub work-spec : {M : Type 1} → statement M
 work-spec =

@@ -31,7 +31,9 @@ same-length c = search needs
 returns : tie.Need-returns
 returns c =
     let a = c .before .before .before .before .before .before .before .before .before .args in
-    load-is (a .b .now) (a .at) _ _ _ _ _ _ _ (c .before .before .before .before .before .before .byte-at .ensures .0) (c .before .before .before .before .before .select .ensures) (c .before .before .before .before .count-at .ensures .0) (c .before .before .puts .ensures)
+    load-is (a .b .now) (a .at) _ _ _ _ _ _ _ (c .before .before .before .before .before .before .byte-at .ensures .0)
+    (c .before .before .before .before .before .select .ensures)
+    (c .before .before .before .before .count-at .ensures .0) (c .before .before .puts .ensures)
 
 pub load-spec : {M : Type 1} → statement M
 load-spec =

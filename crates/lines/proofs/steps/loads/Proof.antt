@@ -12,7 +12,9 @@ use Rattle.lines.proofs.steps.loads.Statement.{statement}
 use Rattle.lines.proofs.steps.loads.Tie as tie
 
 abbrev Inv-loop : tie.InvT-loop
-Inv-loop tables₀ b t₀ at₀ left₀ tables t at left = (at + 65538 * left ≤ 16712191) × (length tables ≡ length tables₀) × (runOf (midway t tables) (loadsAt left b at) ≡ runOf (midway t₀ tables₀) (loadsAt (loadsOf b) b 1))
+Inv-loop tables₀ b t₀ at₀ left₀ tables t at left =
+    (at + 65538 * left ≤ 16712191) × (length tables ≡ length tables₀)
+    × (runOf (midway t tables) (loadsAt left b at) ≡ runOf (midway t₀ tables₀) (loadsAt (loadsOf b) b 1))
 
 abbrev μ-loop : tie.MeasureT-loop
 μ-loop tables₀ b t₀ at₀ left₀ tables t at left = left
@@ -50,7 +52,8 @@ loop-again c =
     let b = c .before .before .before .before .before .before .before .before .before .before .args .b .now in (
       search needs,
       search needs,
-      loads-turn b (l .left) (l .at) _ _ _ _ (c .before .before .before .before .before .loop-test .taken) (l .inv .2) (c .count-at .ensures .0) (c .before .before .before .load .ensures),
+      loads-turn b (l .left) (l .at) _ _ _ _ (c .before .before .before .before .before .loop-test .taken) (l .inv .2)
+          (c .count-at .ensures .0) (c .before .before .before .load .ensures),
     )
 
 same-length : tie.Need-same-length Inv-loop μ-loop

@@ -10,7 +10,9 @@ use Rattle.lines.proofs.steps.puts.Statement.{statement}
 use Rattle.lines.proofs.steps.puts.Tie as tie
 
 abbrev Inv-loop : tie.InvT-loop
-Inv-loop tables₀ b from n t₀ at₀ left₀ tables t at left = (at + left ≤ from + n) × (length tables ≡ length tables₀) × (runOf (midway t tables) (putsAt left b at) ≡ runOf (midway t₀ tables₀) (putsAt n b from))
+Inv-loop tables₀ b from n t₀ at₀ left₀ tables t at left =
+    (at + left ≤ from + n) × (length tables ≡ length tables₀)
+    × (runOf (midway t tables) (putsAt left b at) ≡ runOf (midway t₀ tables₀) (putsAt n b from))
 
 abbrev μ-loop : tie.MeasureT-loop
 μ-loop tables₀ b from n t₀ at₀ left₀ tables t at left = left
@@ -42,7 +44,8 @@ loop-again c =
     let b = c .before .before .before .before .before .before .before .before .before .args .b .now in (
       search needs,
       search needs,
-      puts-turn b (l .left) (l .at) _ _ _ _ (c .before .before .before .before .before .loop-test .taken) (l .inv .2) (c .before .before .before .byte-at .ensures .0) (c .before .before .put .ensures),
+      puts-turn b (l .left) (l .at) _ _ _ _ (c .before .before .before .before .before .loop-test .taken) (l .inv .2)
+          (c .before .before .before .byte-at .ensures .0) (c .before .before .put .ensures),
     )
 
 same-length : tie.Need-same-length Inv-loop μ-loop

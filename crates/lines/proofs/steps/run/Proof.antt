@@ -22,7 +22,8 @@ same-length c = search needs
 returns : tie.Need-returns
 returns c =
     let a = c .before .before .before .before .before .before .before .before in
-    steps-is (a .args .b .now) (a .args .place) _ _ _ _ _ _ (a .pre .0) (c .before .byte-at .ensures .0) (c .before .before .before .before .loads .ensures) (c .writes .ensures)
+    steps-is (a .args .b .now) (a .args .place) _ _ _ _ _ _ (a .pre .0) (c .before .byte-at .ensures .0)
+    (c .before .before .before .before .loads .ensures) (c .writes .ensures)
 
 pub run-spec : {M : Type 1} → statement M
 run-spec =

@@ -10,7 +10,9 @@ use Rattle.lines.proofs.steps.writes.Statement.{statement}
 use Rattle.lines.proofs.steps.writes.Tie as tie
 
 abbrev Inv-loop : tie.InvT-loop
-Inv-loop b from n t₀ at₀ left₀ t at left = (at + 5 * left ≤ from + 5 * n) × ((l : List ℕ) → runOf (midway t l) (writesAt left b at) ≡ runOf (midway t₀ l) (writesAt n b from))
+Inv-loop b from n t₀ at₀ left₀ t at left =
+    (at + 5 * left ≤ from + 5 * n)
+    × ((l : List ℕ) → runOf (midway t l) (writesAt left b at) ≡ runOf (midway t₀ l) (writesAt n b from))
 
 abbrev μ-loop : tie.MeasureT-loop
 μ-loop b from n t₀ at₀ left₀ t at left = left
@@ -50,13 +52,15 @@ loop-again c =
     let l = c .before .before .before .before .loop in
     let b = c .before .before .before .before .before .before .args .b .now in (
       search needs,
-      λ z. writes-turn b (l .left) (l .at) _ _ _ _ _ (c .before .before .before .loop-test .taken) (l .inv .1 z) (c .before .before .byte-at .ensures .0) (c .before .word-at .ensures .0) (c .write .ensures z),
+      λ z. writes-turn b (l .left) (l .at) _ _ _ _ _ (c .before .before .before .loop-test .taken) (l .inv .1 z)
+          (c .before .before .byte-at .ensures .0) (c .before .word-at .ensures .0) (c .write .ensures z),
     )
 
 returns : tie.Need-returns Inv-loop μ-loop
 returns c =
     let l = c .before .loop in
-    λ z. writes-end (c .before .before .before .args .b .now) (l .left) (l .at) (midway (l .t) z) (midway (l .t) z) _ (c .loop-test .left) (l .inv .1 z)
+    λ z. writes-end (c .before .before .before .args .b .now) (l .left) (l .at) (midway (l .t) z) (midway (l .t) z) _
+    (c .loop-test .left) (l .inv .1 z)
 
 pub writes-spec : {M : Type 1} → statement M
 writes-spec =

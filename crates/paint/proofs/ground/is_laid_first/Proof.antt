@@ -16,7 +16,10 @@ is-whole-line-requires c κs = search needs
 
 returns-3 : tie.Need-returns-3
 returns-3 c =
-    rw (not-false (c .before .before .before .args .fresh) (c .before .before .if1 .left), lt-ltb 0 (c .before .before .before .args .count) (omega (arith, c .before .if2 .left))) (c .is-whole-line .ensures)
+    rw (
+      not-false (c .before .before .before .args .fresh) (c .before .before .if1 .left),
+      lt-ltb 0 (c .before .before .before .args .count) (omega (arith, c .before .if2 .left)),
+    ) (c .is-whole-line .ensures)
 
 pub is-laid-first-spec : {M : Type 1} → statement M
 is-laid-first-spec = tie.close (tie.spec returns returns-2 is-whole-line-requires returns-3)

@@ -1,7 +1,7 @@
 -- `paint::ground::is_whole_line` meets its contract: each `return` is a case of `wholeLine`. Assumes nothing.
 use borrow.Author.Needs.{needs}
 use borrow.Author.Tests.{eq-eqb, ne-eqb, lt-leb, le-leb}
-use Rattle.paint.specs.Lines.{wholeLine}
+use Rattle.paint.specs.Engine.Lines.{wholeLine}
 use Rattle.paint.proofs.ground.is_whole_line.Statement.{statement}
 use Rattle.paint.proofs.ground.is_whole_line.Tie as tie
 
@@ -18,7 +18,12 @@ cast-top c = search needs
 
 returns-3 : tie.Need-returns-3
 unfolding wholeLine
-returns-3 c = rw (c .before .before .before .before .if1 .left, eq-eqb _ _ (c .before .before .if2 .left), lt-leb _ _ (c .if3 .taken))
+returns-3 c =
+    rw (
+      c .before .before .before .before .if1 .left,
+      eq-eqb _ _ (c .before .before .if2 .left),
+      lt-leb _ _ (c .if3 .taken),
+    )
 
 cast-result : tie.Need-cast-result
 cast-result c = search needs
@@ -28,7 +33,12 @@ add-result c = search needs
 
 returns-4 : tie.Need-returns-4
 unfolding wholeLine
-returns-4 c = rw (c .before .before .before .before .before .if1 .left, eq-eqb _ _ (c .before .before .before .if2 .left), le-leb _ _ (c .before .if3 .left))
+returns-4 c =
+    rw (
+      c .before .before .before .before .before .if1 .left,
+      eq-eqb _ _ (c .before .before .before .if2 .left),
+      le-leb _ _ (c .before .if3 .left),
+    )
 
 pub is-whole-line-spec : {M : Type 1} → statement M
 is-whole-line-spec = tie.close (tie.spec returns returns-2 cast-top returns-3 cast-result add-result returns-4)

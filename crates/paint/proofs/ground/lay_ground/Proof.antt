@@ -16,7 +16,9 @@ same-length : tie.Need-same-length
 same-length c = search needs
 
 returns-2 : tie.Need-returns-2
-returns-2 c = rw (not-false (c .before .before .before .before .before .before .args .fresh) (c .before .before .before .before .if1 .left)) (c .before .before .fill .ensures ∙ ground-filled _ _)
+returns-2 c =
+    rw (not-false (c .before .before .before .before .before .before .args .fresh)
+    (c .before .before .before .before .if1 .left)) (c .before .before .fill .ensures ∙ ground-filled _ _)
 
 pub lay-ground-spec : {M : Type 1} → statement M
 lay-ground-spec = tie.close (tie.spec returns fill-requires same-length returns-2)

@@ -1,11 +1,10 @@
 -- `paint::ground::over_ground` meets its contract: the row of one colour is the ground, and with each pixel at
 -- its own alpha the one alpha is not looked at. Assumes nothing.
 use borrow.Author.Needs.{needs}
-use mathlib.Core.Path.{refl, ap, _∙_}
+use mathlib.Core.Path.{ap, _∙_}
 use Rattle.lists.specs.Tab.{each}
-use Rattle.lists.proofs.Tab.{each-cong}
-use Rattle.span.specs.Span.{overByte}
 use Rattle.paint.proofs.GroundLaws.{ground-filled}
+use Rattle.paint.proofs.LineLaws.{over-own}
 use Rattle.paint.proofs.ground.over_ground.Statement.{statement}
 use Rattle.paint.proofs.ground.over_ground.Tie as tie
 
@@ -16,7 +15,9 @@ same-length : tie.Need-same-length
 same-length c = search needs
 
 returns : tie.Need-returns
-returns c = rw (c .before .before .before .before .if1 .taken) (c .before .before .lay-flat .ensures ∙ ap (each _) (ground-filled _ _))
+returns c =
+    rw (c .before .before .before .before .if1 .taken)
+    (c .before .before .lay-flat .ensures ∙ ap (each _) (ground-filled _ _))
 
 lay-requires : tie.Need-lay-requires
 lay-requires c κs = search needs
@@ -25,8 +26,9 @@ same-length-2 : tie.Need-same-length-2
 same-length-2 c = search needs
 
 returns-2 : tie.Need-returns-2
-unfolding overByte
-returns-2 c = rw (c .before .before .before .before .if1 .left) (c .before .before .lay .ensures ∙ ap (each _) (ground-filled _ _) ∙ each-cong _ _ _ (λ i p. refl))
+returns-2 c =
+    rw (c .before .before .before .before .if1 .left)
+    (c .before .before .lay .ensures ∙ ap (each _) (ground-filled _ _) ∙ over-own _ _ _)
 
 pub over-ground-spec : {M : Type 1} → statement M
 over-ground-spec =

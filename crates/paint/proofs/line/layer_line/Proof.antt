@@ -1,31 +1,36 @@
 -- `paint::line::layer_line` meets its contract: beside the line the layer changes nothing; on it each kind
 -- of layer has its own worker. Assumes nothing.
-use Prim.Native.Nat.{_≤_}
-use native.Mathlib.Omega.{arith}
-use Rattle.paint.proofs.LineLaws.{step-narrow, step-above, step-below}
+use borrow.Author.Needs.{needs}
+use Rattle.paint.specs.Engine.Lines.{OnRow}
+use Rattle.paint.proofs.FitLaws.{row-fits}
+use Rattle.paint.proofs.LineLaws.{step-above, step-below}
 use Rattle.paint.proofs.line.layer_line.Statement.{statement}
 use Rattle.paint.proofs.line.layer_line.Tie as tie
 
-narrow : (c : tie.Start) → (c .args .step .layer .width ≤ 4095) × (c .args .step .layer .height ≤ 4095) × (c .args .step .layer .y ≤ 4095)
-narrow c = step-narrow _ _ _ (c .pre .0)
-
 cast-top : tie.Need-cast-top
-cast-top c = omega (arith, narrow (c .before .before .before .before .before .before))
+cast-top c = search needs
 
 returns : tie.Need-returns
-returns c = step-above _ _ _ _ (c .before .before .before .before .before .before .before .pre .0) (c .if1 .taken)
+returns c = record { over = λ s same long m. step-above s _ _ m _ (c .if1 .taken) }
 
 cast-if2 : tie.Need-cast-if2
-cast-if2 c = omega (arith, narrow (c .before .before .before .before .before .before .before .before))
+cast-if2 c = search needs
 
 add-if2 : tie.Need-add-if2
-add-if2 c = omega (arith, narrow (c .before .before .before .before .before .before .before .before))
+add-if2 c = search needs
 
 returns-2 : tie.Need-returns-2
-returns-2 c = step-below _ _ _ _ (c .before .before .before .before .before .before .before .before .before .pre .0) (c .if2 .taken)
+returns-2 c = record { over = λ s same long m. step-below s _ _ m _ (c .if2 .taken) }
 
 graphics-line-requires : tie.Need-graphics-line-requires
-graphics-line-requires c κs = (c .before .before .before .before .before .before .before .before .before .before .before .before .before .pre .0, record { top = c .before .before .before .before .before .before .if1 .left; bottom = c .before .before .before .before .if2 .left }, c .before .before .before .if3 .taken, c .before .before .before .before .before .before .before .before .before .before .before .before .before .pre .1)
+graphics-line-requires c κs =
+    let a = c .before .before .before .before .before .before .before .before .before .before .before .before .before in
+    let row : OnRow (a .args .step) (a .args .y) =
+    record {
+      top = c .before .before .before .before .before .before .if1 .left;
+      bottom = c .before .before .before .before .if2 .left;
+    } in
+    ((row, a .pre .0 .on, c .before .before .before .if3 .taken), (a .pre .0 .banked, a .pre .1))
 
 same-length : tie.Need-same-length
 same-length c = c .before .before .before .before .before .before .graphics-line .kept .0
@@ -37,16 +42,24 @@ same-length-3 : tie.Need-same-length-3
 same-length-3 c = c .before .before .before .before .before .before .graphics-line .kept .1 .1 .0
 
 returns-3 : tie.Need-returns-3
-returns-3 c = c .before .before .before .before .before .before .graphics-line .ensures
+returns-3 c =
+    record {
+      over = λ s same long m. c .before .before .before .before .before .before .graphics-line .ensures .over s
+          (same .0) long m;
+    }
 
 picture-line-requires : tie.Need-picture-line-requires
-picture-line-requires c κs = (c .before .before .before .before .before .before .before .before .before .before .before .pre .0, record { top = c .before .before .before .before .if1 .left; bottom = c .before .before .if2 .left }, c .before .if3 .left)
+picture-line-requires c κs =
+    let a = c .before .before .before .before .before .before .before .before .before .before .before in
+    let row : OnRow (a .args .step) (a .args .y) =
+    record { top = c .before .before .before .before .if1 .left; bottom = c .before .before .if2 .left } in
+    let frame = c .before .if3 .left in ((row, a .pre .0 .on, frame), row-fits _ _ _ (a .pre .0 .pictured) row frame)
 
 same-length-4 : tie.Need-same-length-4
 same-length-4 c = c .before .before .picture-line .kept .0
 
 returns-4 : tie.Need-returns-4
-returns-4 c = c .before .before .picture-line .ensures
+returns-4 c = record { over = λ s same long m. c .before .before .picture-line .ensures .over s (same .1) long m }
 
 pub layer-line-spec : {M : Type 1} → statement M
 layer-line-spec =

@@ -1,9 +1,8 @@
 -- `paint::line::over` meets its contract: with each pixel at its own alpha the one alpha is not looked at.
 -- Assumes nothing.
 use borrow.Author.Needs.{needs}
-use mathlib.Core.Path.{refl, _∙_}
-use Rattle.lists.proofs.Tab.{each-cong}
-use Rattle.span.specs.Span.{overByte}
+use mathlib.Core.Path.{_∙_}
+use Rattle.paint.proofs.LineLaws.{over-own}
 use Rattle.paint.proofs.line.over.Statement.{statement}
 use Rattle.paint.proofs.line.over.Tie as tie
 
@@ -23,8 +22,9 @@ same-length-2 : tie.Need-same-length-2
 same-length-2 c = search needs
 
 returns-2 : tie.Need-returns-2
-unfolding overByte
-returns-2 c = rw (c .before .before .before .before .if1 .left) (c .before .before .blend .ensures ∙ each-cong _ _ _ (λ i p. refl))
+returns-2 c =
+    rw (c .before .before .before .before .if1 .left)
+    (c .before .before .blend .ensures ∙ over-own _ _ _)
 
 pub over-spec : {M : Type 1} → statement M
 over-spec =

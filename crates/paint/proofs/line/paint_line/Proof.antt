@@ -3,44 +3,42 @@
 -- nothing.
 use borrow.Author.Needs.{needs}
 use mathlib.Core.Path.{_≡_, refl, _∙_}
-use Prim.Native.Nat.{_≤_, _-_}
+use mathlib.Core.List.{List}
+use Prim.Native.Nat.{ℕ, _-_}
 use native.Mathlib.Omega.{arith}
 use lib.ListN.{length}
 use Rattle.lists.specs.Tab.{each}
-use Rattle.paint.specs.Scene.{sceneOf}
-use Rattle.paint.specs.Plan.{bandLayers}
-use Rattle.paint.specs.Lines.{lineFrom}
-use Rattle.paint.proofs.PlanLaws.{planned-numbered, planned-number, planned-painting}
+use Rattle.frames.specs.Scene.{Scene}
+use Rattle.paint.specs.Engine.Lines.{lineFrom, Lends, OfLine, OfLayers}
+use Rattle.paint.proofs.PlanLaws.{planned-number, planned-layer}
 use Rattle.paint.proofs.LineLaws.{line-left, line-done}
 use Rattle.paint.proofs.line.paint_line.Statement.{statement}
 use Rattle.paint.proofs.line.paint_line.Tie as tie
 
 abbrev Inv-loop : tie.InvT-loop
-Inv-loop line₀ indexes₀ row₀ w frame tables pictures low high laid y plan i₀ line indexes row i =
-    (each (lineFrom (sceneOf w frame tables pictures) y (bandLayers w low high) i) line ≡ each (lineFrom (sceneOf w frame tables pictures) y (bandLayers w low high) laid) line₀)
+Inv-loop line₀ indexes₀ row₀ tables pictures laid y plan i₀ line indexes row i =
+    ((s : Scene) (l : List ℕ) → Lends tables pictures s → OfLine s line₀ → OfLayers s l plan
+    → each (lineFrom s y l i) line ≡ each (lineFrom s y l laid) line₀)
     × (length line ≡ length line₀) × (length indexes ≡ length indexes₀) × (length row ≡ length row₀)
 
 abbrev μ-loop : tie.MeasureT-loop
-μ-loop line₀ indexes₀ row₀ w frame tables pictures low high laid y plan i₀ line indexes row i = plan .count - i
-
-few : (c : tie.Start Inv-loop μ-loop) → c .args .t10 .count ≤ 8
-few c = planned-numbered _ _ _ _ _ _ (c .pre .0 .1) .few
+μ-loop line₀ indexes₀ row₀ tables pictures laid y plan i₀ line indexes row i = plan .count - i
 
 loop-holds : tie.Need-loop-holds Inv-loop μ-loop
-loop-holds c = (refl, refl, refl, refl)
+loop-holds c = (λ s l same long q. refl, refl, refl, refl)
 
 mul-step : tie.Need-mul-step Inv-loop μ-loop
-mul-step c = omega (arith, few (c .before .before .before .before .before .before .before))
+mul-step c = omega (arith, c .before .before .before .before .before .before .before .pre .0 .few)
 
 element-copy-out-step : tie.Need-element-copy-out-step Inv-loop μ-loop
-element-copy-out-step c = omega (arith, few (c .before .before .before .before .before .before .before))
+element-copy-out-step c = omega (arith, c .before .before .before .before .before .before .before .pre .0 .few)
 
 layer-line-requires : tie.Need-layer-line-requires Inv-loop μ-loop
 layer-line-requires c κs =
     let a = c .before .before .before .before .before .before .before .before .before .before .before in
     let i = c .before .before .before .before .before .loop .inv in (
-      planned-painting _ _ _ _ _ _ (a .pre .0 .0) (i .1 ∙ a .pre .1 .0) (a .pre .0 .1) (c .before .before .before .before .loop-test .taken),
-      record { wide = omega (arith, i .2, a .pre .1 .1 .wide); long = omega (arith, i .3, a .pre .1 .1 .long) },
+      rw (i .1) (a .pre .0 .fit _ (c .before .before .before .before .loop-test .taken)),
+      record { wide = omega (arith, i .1, i .2, a .pre .1 .wide); long = omega (arith, i .1, i .3, a .pre .1 .long) },
     )
 
 add-i : tie.Need-add-i Inv-loop μ-loop
@@ -51,13 +49,16 @@ loop-less c = search needs
 
 loop-again : tie.Need-loop-again Inv-loop μ-loop
 loop-again c =
-    let a = c .before .before .before .before .before .before .before .before .before .before .before .before .before .before .before .before .before .before in
-    let i = c .before .before .before .before .before .before .before .before .before .before .before .before .loop .inv in
-    let t = c .before .before .before .before .before .before .before .before .before .before .before .loop-test .taken in (
-      line-left _ _ _ _ _ _ _ (omega (arith, a .pre .0 .1 .count)) (planned-number _ _ _ _ _ _ (a .pre .0 .1) t) (i .0) (c .before .before .before .before .before .before .layer-line .ensures),
-      c .before .before .before .before .before .before .layer-line .kept .0 ∙ i .1,
-      c .before .before .before .before .before .before .layer-line .kept .1 .0 ∙ i .2,
-      c .before .before .before .before .before .before .layer-line .kept .1 .1 .0 ∙ i .3,
+    let turn = c .before .before .before .before .before .before .before .before .before .before .before in
+    let i = turn .before .loop .inv in
+    let t = turn .loop-test .taken in
+    let r = c .before .before .before .before .before .before .layer-line in (
+      λ s l same long q.
+          line-left s _ l _ _ _ _ (omega (arith, q .count)) (planned-number s l _ _ q t) (i .0 s l same long q)
+          (r .ensures .over s same (i .1 ∙ long) (planned-layer s l _ _ q t)),
+      r .kept .0 ∙ i .1,
+      r .kept .1 .0 ∙ i .2,
+      r .kept .1 .1 .0 ∙ i .3,
     )
 
 same-length : tie.Need-same-length Inv-loop μ-loop
@@ -70,7 +71,10 @@ same-length-3 : tie.Need-same-length-3 Inv-loop μ-loop
 same-length-3 c = c .before .loop .inv .3
 
 returns : tie.Need-returns Inv-loop μ-loop
-returns c = line-done _ _ _ _ _ (omega (arith, c .before .before .before .before .before .before .before .pre .0 .1 .count)) (c .before .loop .inv .0)
+returns c =
+    record {
+      over = λ s l same long q. line-done s _ l _ _ (omega (arith, q .count)) (c .before .loop .inv .0 s l same long q);
+    }
 
 pub paint-line-spec : {M : Type 1} → statement M
 paint-line-spec =

@@ -1,18 +1,10 @@
--- `paint::line::picture_line` meets its contract: the layer's part of the line lies on it, and the row's part of the picture among the pictures.
--- Assumes nothing.
+-- `paint::line::picture_line` meets its contract: the layer's part of the line lies on it, and the row's part of
+-- the picture among the pictures. Assumes nothing.
 use borrow.Author.Needs.{needs}
-use mathlib.Core.List.{[]}
-use Prim.Native.Nat.{_+_, _*_, _≤_}
 use native.Mathlib.Omega.{arith}
-use lib.ListN.{length}
-use denote.Ref.{now}
-use Rattle.paint.specs.Lines.{rowStart}
-use Rattle.paint.proofs.LineLaws.{step-lent, picture-room, picture-lent}
+use Rattle.paint.proofs.LineLaws.{picture-own, step-over}
 use Rattle.paint.proofs.line.picture_line.Statement.{statement}
 use Rattle.paint.proofs.line.picture_line.Tie as tie
-
-room : (c : tie.Start) → rowStart (c .args .step) (c .args .y) + 4 * c .args .step .wide ≤ length (now (c .args .pictures))
-room c = picture-room _ _ _ [] [] _ (c .pre .0) (c .pre .1) (c .pre .2)
 
 mul-left : tie.Need-mul-left
 mul-left c = search needs
@@ -21,7 +13,7 @@ mul-wide : tie.Need-mul-wide
 mul-wide c = search needs
 
 row-start-requires : tie.Need-row-start-requires
-row-start-requires c κs = let a = c .before .before .before .before .before in (a .pre .1, omega (arith, room a))
+row-start-requires c κs = let a = c .before .before .before .before in (a .pre .0 .0, omega (arith, a .pre .1))
 
 add-over : tie.Need-add-over
 add-over c = search needs
@@ -36,7 +28,7 @@ part-over-end : tie.Need-part-over-end
 part-over-end c = search needs
 
 add-over-2 : tie.Need-add-over-2
-add-over-2 c = omega (arith, c .before .row-start .ensures, room (c .before .before .before .before .before .before .before))
+add-over-2 c = omega (arith, c .before .row-start .ensures, c .before .before .before .before .before .before .pre .1)
 
 sub-over-2 : tie.Need-sub-over-2
 sub-over-2 c = search needs
@@ -45,7 +37,8 @@ part-over-start-2 : tie.Need-part-over-start-2
 part-over-start-2 c = search needs
 
 part-over-end-2 : tie.Need-part-over-end-2
-part-over-end-2 c = omega (arith, c .before .row-start .ensures, room (c .before .before .before .before .before .before .before))
+part-over-end-2 c =
+    omega (arith, c .before .row-start .ensures, c .before .before .before .before .before .before .pre .1)
 
 over-requires : tie.Need-over-requires
 over-requires c κs = search needs
@@ -55,8 +48,14 @@ same-length c = search needs
 
 returns : tie.Need-returns
 returns c =
-    let a = c .before .before .before .before .before .before .before .before .before .before .before in
-    step-lent _ _ _ _ _ _ (a .pre .0) (a .pre .1) (picture-lent _ _ _ [] [] _ (a .pre .0) (a .pre .1) _ (c .before .before .before .before .before .row-start .ensures) (a .pre .2)) (c .before .before .over .ensures)
+    let a = c .before .before .before .before .before .before .before .before .before .before in
+    record {
+      over = λ s same long m.
+          step-over s _ _ m (a .pre .0 .0) _
+          (picture-own s _ _ m _ _ same (c .before .before .before .before .before .row-start .ensures)
+          (a .pre .0 .2)) _ _ long
+          (c .before .before .over .ensures);
+    }
 
 pub picture-line-spec : {M : Type 1} → statement M
 picture-line-spec =

@@ -4,7 +4,7 @@ use borrow.Author.Needs.{needs}
 use mathlib.Core.Path.{refl}
 use Prim.Native.Nat.{_-_, _*_, _<_}
 use native.Mathlib.Omega.{arith}
-use Rattle.paint.specs.Lines.{rowStart}
+use Rattle.paint.specs.Engine.Lines.{rowStart}
 use Rattle.paint.proofs.line.row_start.Statement.{statement}
 use Rattle.paint.proofs.line.row_start.Tie as tie
 
@@ -14,7 +14,8 @@ start c = omega (arith, c .pre .1)
 product : (c : tie.Start) → (c .args .y - c .args .step .layer .y) * c .args .step .layer .width < 18446744073709551616
 product c = omega (arith, start c)
 
-product-4 : (c : tie.Start) → 4 * ((c .args .y - c .args .step .layer .y) * c .args .step .layer .width) < 18446744073709551616
+product-4 : (c : tie.Start)
+    → 4 * ((c .args .y - c .args .step .layer .y) * c .args .step .layer .width) < 18446744073709551616
 product-4 c = omega (arith, start c)
 
 cast-v : tie.Need-cast-v

@@ -1,15 +1,9 @@
 -- `paint::plan::end_at` meets its contract: the part has the length of a list.
 -- Assumes nothing.
 use borrow.Author.Needs.{needs}
-use native.Mathlib.Omega.{arith}
-use Rattle.lists.proofs.Tab.{length-part}
-use mathlib.Core.Path.{_≡_}
-use Prim.Native.Nat.{ℕ, _+_, _-_}
+use Rattle.paint.proofs.PartLaws.{part-is, length-lent}
 use Rattle.paint.proofs.plan.end_at.Statement.{statement}
 use Rattle.paint.proofs.plan.end_at.Tie as tie
-
-long : (at : ℕ) → at + 768 - at ≡ 768
-long at = omega arith
 
 add-list-end : tie.Need-add-list-end
 add-list-end c = search needs
@@ -24,10 +18,13 @@ part-list-end-end : tie.Need-part-list-end-end
 part-list-end-end c = search needs
 
 list-end-requires : tie.Need-list-end-requires
-list-end-requires c κs = rw (long (c .before .before .args .at)) (length-part (c .before .before .args .tables .now) (c .before .before .args .at) 768 (omega arith))
+list-end-requires c κs =
+    length-lent (c .before .before .args .tables .now) (c .before .before .args .at) 768 (c .before .before .pre)
 
 returns : tie.Need-returns
-returns c = rw (long (c .before .before .before .args .at)) at (c .list-end .ensures)
+returns c =
+    rw (part-is (c .before .before .before .args .tables .now) (c .before .before .before .args .at) 768)
+    at (c .list-end .ensures)
 
 pub end-at-spec : {M : Type 1} → statement M
 end-at-spec =

@@ -7,7 +7,7 @@ use native.Mathlib.Omega.{arith}
 use borrow.Author.Tests.{not-true, not-false}
 use lib.Bits.{bitOr}
 use Rattle.lists.proofs.Bits.{one-bit}
-use Rattle.paint.specs.Plan.{marked}
+use Rattle.paint.specs.Engine.Plan.{marked}
 use Rattle.paint.proofs.plan.mark.Statement.{statement}
 use Rattle.paint.proofs.plan.mark.Tie as tie
 
@@ -17,7 +17,8 @@ returns c = rw (not-true (c .before .before .args .step .layer .graphics) (c .if
 
 returns-2 : tie.Need-returns-2
 unfolding marked
-returns-2 c = rw (not-false (c .before .before .before .args .step .layer .graphics) (c .before .if1 .left), c .if2 .taken)
+returns-2 c =
+    rw (not-false (c .before .before .before .args .step .layer .graphics) (c .before .if1 .left), c .if2 .taken)
 
 cast-result : tie.Need-cast-result
 cast-result c = search needs
@@ -31,8 +32,12 @@ shl-result c = search needs
 returns-3 : tie.Need-returns-3
 unfolding marked
 returns-3 c =
-    rw (not-false (c .before .before .before .before .args .step .layer .graphics) (c .before .before .if1 .left), c .before .if2 .left)
-    (ap (bitOr (c .before .before .before .before .args .errors)) (one-bit (4 * c .before .before .before .before .args .step .number) (omega arith)))
+    rw (
+      not-false (c .before .before .before .before .args .step .layer .graphics) (c .before .before .if1 .left),
+      c .before .if2 .left,
+    )
+    (ap (bitOr (c .before .before .before .before .args .errors))
+    (one-bit (4 * c .before .before .before .before .args .step .number) (omega arith)))
 
 pub mark-spec : {M : Type 1} → statement M
 mark-spec = tie.close (tie.spec returns returns-2 cast-result mul-result shl-result returns-3)

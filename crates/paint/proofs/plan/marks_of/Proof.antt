@@ -5,7 +5,7 @@ use mathlib.Core.Path.{_≡_, ap, _∙_}
 use Prim.Native.Nat.{_≤_, _-_}
 use native.Mathlib.Omega.{arith}
 use lib.ListN.{getD}
-use Rattle.paint.specs.Plan.{blank, marked, markedTo}
+use Rattle.paint.specs.Engine.Plan.{blankStep, marked, markedTo}
 use Rattle.paint.proofs.PlanLaws.{marked-none, marked-next, marked-all}
 use Rattle.paint.proofs.plan.marks_of.Statement.{statement}
 use Rattle.paint.proofs.plan.marks_of.Tie as tie
@@ -35,7 +35,14 @@ loop-less : tie.Need-loop-less Inv-loop μ-loop
 loop-less c = search needs
 
 loop-again : tie.Need-loop-again Inv-loop μ-loop
-loop-again c = (search needs, marked-next _ _ _ _ (c .mark .ensures ∙ ap (marked (getD (c .before .before .before .before .args .t1 .steps) (c .before .before .before .loop .i) blank)) (c .before .before .before .loop .inv .1)))
+loop-again c = (
+  search needs,
+  marked-next _ _ _ _
+      (c .mark .ensures ∙ ap
+      (marked (getD (c .before .before .before .before .args .t1 .steps)
+      (c .before .before .before .loop .i) blankStep))
+      (c .before .before .before .loop .inv .1)),
+)
 
 returns : tie.Need-returns Inv-loop μ-loop
 returns c = marked-all _ _ _ _ (omega arith) (c .before .loop .inv .1)

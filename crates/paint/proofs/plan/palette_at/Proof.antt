@@ -1,15 +1,9 @@
 -- `paint::plan::palette_at` meets its contract: the part has the length of a colour table.
 -- Assumes nothing.
 use borrow.Author.Needs.{needs}
-use mathlib.Core.Path.{_≡_}
-use Prim.Native.Nat.{ℕ, _+_, _-_}
-use native.Mathlib.Omega.{arith}
-use Rattle.lists.proofs.Tab.{length-part}
+use Rattle.paint.proofs.PartLaws.{part-is, length-lent}
 use Rattle.paint.proofs.plan.palette_at.Statement.{statement}
 use Rattle.paint.proofs.plan.palette_at.Tie as tie
-
-long : (at : ℕ) → at + 64 - at ≡ 64
-long at = omega arith
 
 add-palette : tie.Need-add-palette
 add-palette c = search needs
@@ -24,10 +18,13 @@ part-palette-end : tie.Need-part-palette-end
 part-palette-end c = search needs
 
 palette-requires : tie.Need-palette-requires
-palette-requires c κs = rw (long (c .before .before .args .at)) (length-part (c .before .before .args .tables .now) (c .before .before .args .at) 64 (omega arith))
+palette-requires c κs =
+    length-lent (c .before .before .args .tables .now) (c .before .before .args .at) 64 (c .before .before .pre)
 
 returns : tie.Need-returns
-returns c = rw (long (c .before .before .before .args .at)) at (c .palette .ensures)
+returns c =
+    rw (part-is (c .before .before .before .args .tables .now) (c .before .before .before .args .at) 64)
+    at (c .palette .ensures)
 
 pub palette-at-spec : {M : Type 1} → statement M
 palette-at-spec =

@@ -4,7 +4,7 @@ use borrow.Author.Needs.{needs}
 use mathlib.Core.Path.{refl}
 use native.Mathlib.Omega.{arith}
 use Rattle.tables.specs.Geometry.{kindLen}
-use Rattle.paint.specs.Pixel.{bankOf}
+use Rattle.frames.specs.Pixel.{bankBytes}
 use Rattle.paint.proofs.plan.step_of.Statement.{statement}
 use Rattle.paint.proofs.plan.step_of.Tie as tie
 
@@ -59,17 +59,19 @@ unfolding kindLen
 palette-at-requires c κs = omega (arith, c .before .before .before .active-at2 .ensures .1)
 
 returns : tie.Need-returns
-unfolding kindLen bankOf
+unfolding kindLen bankBytes
 returns c =
-    let l = c .before .before .before .before .before .before .before .before .before .before .before .before .layer-of .ensures in
-    let w = c .before .before .before .before .before .before .before .before .before .before .before .screen-width .ensures in
+    let least = c .before .before .before .before .before .before .before .before .before in
+    let w = least .before .before .screen-width .ensures in
+    let l = least .before .before .before .layer-of .ensures in
     record {
       number = refl;
       layer = l;
-      left = rw (l, w) at (c .before .before .before .before .before .before .before .before .before .least .ensures);
-      wide = rw (c .before .before .before .before .before .before .before .before .before .least .ensures, l, w) at (c .before .before .before .before .before .before .before .least2 .ensures);
+      left = rw (l, w) at (least .least .ensures);
+      wide = rw (least .least .ensures, l, w)
+          at (c .before .before .before .before .before .before .before .least2 .ensures);
       alpha = rw l at (c .before .before .before .before .before .before .fade .ensures);
-      start = c .before .before .before .before .before .before .before .before .before .before .before .before .before .before .pre .2;
+      start = least .before .before .before .before .before .pre .2;
       list = c .before .before .before .before .before .active-at .ensures .0;
       strings = c .before .before .before .active-at3 .ensures .0;
       font = c .before .before .active-at4 .ensures .0;

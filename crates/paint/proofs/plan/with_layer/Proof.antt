@@ -5,7 +5,7 @@ use mathlib.Core.Path.{_≡_, sym, ap, _∙_}
 use native.Mathlib.Omega.{arith}
 use Rattle.lists.proofs.Tab.{getD-tab}
 use Rattle.words.specs.Fields.{layerOf}
-use Rattle.paint.specs.Plan.{within}
+use Rattle.words.specs.Order.{within}
 use Rattle.paint.proofs.PlanLaws.{grown-taken, grown-left}
 use Rattle.paint.proofs.plan.with_layer.Statement.{statement}
 use Rattle.paint.proofs.plan.with_layer.Tie as tie
@@ -17,8 +17,13 @@ is-within-requires : tie.Need-is-within-requires
 is-within-requires c κs = search needs
 
 -- what `is_within` answers is whether the layer is of the band
-asked : (c : tie.After-is-within) → c .is-within .result ≡ within (c .before .before .before .args .low) (c .before .before .before .args .high) (layerOf (c .before .before .before .args .w .now) (c .before .before .before .args .n))
-asked c = c .is-within .ensures ∙ ap (within (c .before .before .before .args .low) (c .before .before .before .args .high)) (c .before .layer-of .ensures)
+asked : (c : tie.After-is-within)
+    → c .is-within .result
+    ≡ within (c .before .before .before .args .low) (c .before .before .before .args .high)
+    (layerOf (c .before .before .before .args .w .now) (c .before .before .before .args .n))
+asked c =
+    c .is-within .ensures ∙ ap (within (c .before .before .before .args .low) (c .before .before .before .args .high))
+    (c .before .layer-of .ensures)
 
 mul-step-of : tie.Need-mul-step-of
 mul-step-of c = search needs
@@ -27,7 +32,11 @@ array-read-step-of : tie.Need-array-read-step-of
 array-read-step-of c = search needs
 
 step-of-requires : tie.Need-step-of-requires
-step-of-requires c κs = (c .before .before .before .before .pre .0, c .before .before .before .before .pre .1, rw (c .before .before .before .before .pre .2) (getD-tab 8 _ _ (c .before .before .before .before .pre .0)))
+step-of-requires c κs = (
+  c .before .before .before .before .pre .0,
+  c .before .before .before .before .pre .1,
+  rw (c .before .before .before .before .pre .2) (getD-tab 8 _ _ (c .before .before .before .before .pre .0)),
+)
 
 mul-t19 : tie.Need-mul-t19
 mul-t19 c = omega (arith, c .before .before .before .before .before .pre .3)
@@ -39,7 +48,9 @@ add-plan : tie.Need-add-plan
 add-plan c = omega (arith, c .before .before .before .before .before .pre .3)
 
 returns : tie.Need-returns
-returns c = grown-taken _ _ _ _ _ _ _ _ (sym (asked (c .before .before)) ∙ c .before .if1 .taken) (c .before .before .before .before .before .pre .3) (c .step-of .ensures)
+returns c =
+    grown-taken _ _ _ _ _ _ _ _ (sym (asked (c .before .before)) ∙ c .before .if1 .taken)
+    (c .before .before .before .before .before .pre .3) (c .step-of .ensures)
 
 returns-2 : tie.Need-returns-2
 returns-2 c = grown-left _ _ _ _ _ _ _ (sym (asked (c .before)) ∙ c .if1 .left)

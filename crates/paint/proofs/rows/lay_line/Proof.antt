@@ -3,6 +3,7 @@
 use borrow.Author.Needs.{needs}
 use mathlib.Core.Path.{refl, _∙_}
 use native.Mathlib.Omega.{arith}
+use Rattle.lists.proofs.Tab.{length-each}
 use Rattle.paint.proofs.PlanLaws.{planned-first}
 use Rattle.paint.proofs.LineLaws.{line-done}
 use Rattle.paint.proofs.GroundLaws.{ground-line}
@@ -14,21 +15,27 @@ element-copy-out-lay-first c = search needs
 
 lay-first-requires : tie.Need-lay-first-requires
 lay-first-requires c κs =
-    let a = c .before .before .before .before .before .before .before in (a .pre .1 .0, planned-first _ _ _ _ _ (a .pre .0 .0) (a .pre .1 .0) (a .pre .0 .1))
+    let a = c .before .before .before .before .before .before .before in
+    (a .pre .0 .0, λ h. a .pre .0 .1 .fit 0 h .pictured)
 
 same-length : tie.Need-same-length
 same-length c = search needs
 
 returns : tie.Need-returns
 returns c =
-    let a = c .before .before .before .before .before .before .before .before .before .before .before in
-    ground-line _ _ _ _ _ _ _ _ _ _ (a .pre .1 .1) (a .pre .1 .2) (a .pre .1 .4) (c .before .before .before .lay-first .ensures)
-    (line-done _ _ _ _ _ (omega (arith, a .pre .0 .1 .count, c .if1 .taken)) refl)
+    record {
+      laid = λ s a b same long q band.
+          ground-line s a b _ _ _ _ _ _ _ (band .order) (band .end) q
+          (c .before .before .before .lay-first .ensures .over s _ (same .1) (length-each _ _ ∙ long)
+          (planned-first s _ _ (band .planned)))
+          (line-done s _ _ _ _ (omega (arith, band .planned .count, c .if1 .taken)) refl);
+    }
 
 paint-line-requires : tie.Need-paint-line-requires
 paint-line-requires c κs =
-    let a = c .before .before .before .before .before .before .before .before .before .before .before .before .before .before in
-    (a .pre .0, (c .before .before .before .before .before .before .lay-first .kept .0 ∙ a .pre .1 .0, a .pre .1 .3))
+    let first = c .before .before .before .before .before .before in
+    let a = first .before .before .before .before .before .before .before .before in
+    let kept = first .lay-first .kept .0 in (rw kept (a .pre .0 .1), rw kept (a .pre .1))
 
 same-length-2 : tie.Need-same-length-2
 same-length-2 c = search needs
@@ -41,8 +48,14 @@ same-length-4 c = search needs
 
 returns-2 : tie.Need-returns-2
 returns-2 c =
-    let a = c .before .before .before .before .before .before .before .before .before .before .before .before .before .before .before .before .before .before .before .before .before in
-    ground-line _ _ _ _ _ _ _ _ _ _ (a .pre .1 .1) (a .pre .1 .2) (a .pre .1 .4) (c .before .before .before .before .before .before .before .before .before .before .before .before .before .lay-first .ensures) (c .before .before .before .before .before .before .paint-line .ensures)
+    let rest = c .before .before .before .before .before .before in
+    let first = rest .before .before .before .before .before .before .before .lay-first in
+    record {
+      laid = λ s a b same long q band.
+          ground-line s a b _ _ _ _ _ _ _ (band .order) (band .end) q
+          (first .ensures .over s _ (same .1) (length-each _ _ ∙ long) (planned-first s _ _ (band .planned)))
+          (rest .paint-line .ensures .over s _ same (first .kept .0 ∙ long) (band .planned));
+    }
 
 pub lay-line-spec : {M : Type 1} → statement M
 lay-line-spec =

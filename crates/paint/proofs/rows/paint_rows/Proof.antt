@@ -1,28 +1,29 @@
 -- `paint::rows::paint_rows` meets its contract: the invariant is that the lines above y are painted and
 -- the rooms keep their lengths; the measure is what is left. Assumes nothing.
 use borrow.Author.Needs.{needs}
-use mathlib.Core.Path.{_≡_, sym, ap, _∙_}
+use mathlib.Core.Path.{_≡_, refl, sym, ap, _∙_}
+use mathlib.Core.List.{List}
 use Prim.Native.Nat.{ℕ, _+_, _*_, _≤_, _<_, _-_}
 use native.Mathlib.Omega.{arith}
-use lib.ListN.{length}
+use lib.ListN.{length, take, drop}
 use denote.Ref.{now}
 use Rattle.lists.specs.Tab.{each}
-use Rattle.lists.proofs.Tab.{length-each}
-use Rattle.words.specs.Fields.{widthOf}
-use Rattle.paint.specs.Scene.{sceneOf}
-use Rattle.paint.specs.Lines.{rowsByte}
-use Rattle.paint.proofs.LineLaws.{lent-long}
+use Rattle.words.specs.Fields.{widthOf, groundsOf}
+use Rattle.frames.specs.Scene.{Scene}
+use Rattle.paint.specs.Engine.Lines.{rowsByte, Holds, OfBand}
+use Rattle.paint.proofs.PartLaws.{length-lent}
 use Rattle.paint.proofs.RowsLaws.{rows-none, rows-lent, rows-all, rows-room}
 use Rattle.paint.proofs.rows.paint_rows.Statement.{statement}
 use Rattle.paint.proofs.rows.paint_rows.Tie as tie
 
 abbrev Inv-loop : tie.InvT-loop
-Inv-loop out₀ w frame tables pictures low high fresh plan stride height ground indexes₀ row₀ y₀ out indexes row y =
-    (y ≤ height) × (out ≡ each (rowsByte (sceneOf w frame tables pictures) low high fresh y) out₀) × (length indexes ≡ 4096) × (length row ≡ 16384)
+Inv-loop out₀ w tables pictures fresh plan stride height ground indexes₀ row₀ y₀ out indexes row y =
+    (y ≤ height)
+    × ((s : Scene) (a b : ℕ) → Holds w tables pictures s → OfBand s a b plan → out ≡ each (rowsByte s a b fresh y) out₀)
+    × (length out ≡ length out₀) × (length indexes ≡ 4096) × (length row ≡ 16384)
 
 abbrev μ-loop : tie.MeasureT-loop
-μ-loop out₀ w frame tables pictures low high fresh plan stride height ground indexes₀ row₀ y₀ out indexes row y =
-    height - y
+μ-loop out₀ w tables pictures fresh plan stride height ground indexes₀ row₀ y₀ out indexes row y = height - y
 
 screen-width-requires : tie.Need-screen-width-requires Inv-loop μ-loop
 screen-width-requires c κs = search needs
@@ -48,27 +49,49 @@ index-room-requires c κs = search needs
 pixel-room-requires : tie.Need-pixel-room-requires Inv-loop μ-loop
 pixel-room-requires c κs = search needs
 
+-- the scene's lines are as wide as the words say
+wide : (c : tie.Start Inv-loop μ-loop) (s : Scene) → s .words ≡ now (c .args .w) → 0 < widthOf (s .words)
+wide c s same = rw same (c .pre .0 .1)
+
 loop-holds : tie.Need-loop-holds Inv-loop μ-loop
-loop-holds c = (search needs, rows-none _ _ _ _ (c .before .before .before .before .before .before .before .before .pre .1 .1) _, c .before .index-room .ensures, c .pixel-room .ensures)
+loop-holds c =
+    let a = c .before .before .before .before .before .before .before .before in (
+      search needs,
+      λ s low high same band. rows-none s low high _ (wide a s (same .0)) _,
+      refl,
+      c .before .index-room .ensures,
+      c .pixel-room .ensures,
+    )
 
 -- ---- line y lies in the output
 
-stride : (c : tie.In-loop Inv-loop μ-loop) → 4 * c .before .before .before .before .before .before .screen-width .result ≡ 4 * widthOf (now (c .before .before .before .before .before .before .before .before .before .before .args .w))
+abbrev start : tie.In-loop Inv-loop μ-loop → tie.Start Inv-loop μ-loop
+start c = c .before .before .before .before .before .before .before .before .before .before
+
+-- the bytes of a line
+abbrev S : tie.In-loop Inv-loop μ-loop → ℕ
+S c = 4 * c .before .before .before .before .before .before .screen-width .result
+
+stride : (c : tie.In-loop Inv-loop μ-loop) → S c ≡ 4 * widthOf (now (start c .args .w))
 stride c = ap (λ (n : ℕ). 4 * n) (c .before .before .before .before .before .before .screen-width .ensures)
 
-out-long : (c : tie.In-loop Inv-loop μ-loop) → length (c .before .loop .out) ≡ length (now (c .before .before .before .before .before .before .before .before .before .before .args .out))
-out-long c = ap length (c .before .loop .inv .1) ∙ length-each _ _
-
-room : (c : tie.In-loop Inv-loop μ-loop) → c .before .loop .y * (4 * c .before .before .before .before .before .before .screen-width .result) + 4 * c .before .before .before .before .before .before .screen-width .result ≤ length (c .before .loop .out)
+room : (c : tie.In-loop Inv-loop μ-loop) → c .before .loop .y * S c + S c ≤ length (c .before .loop .out)
 room c =
-    rows-room _ _ _ _ _ _ (stride c) (c .loop-test .taken) (c .before .before .before .before .before .screen-height .ensures)
-    (out-long c ∙ c .before .before .before .before .before .before .before .before .before .before .pre .1 .0)
+    rows-room _ _ _ _ _ _ (stride c) (c .loop-test .taken)
+    (c .before .before .before .before .before .screen-height .ensures)
+    (c .before .loop .inv .2 ∙ start c .pre .0 .0)
 
-at : (c : tie.In-loop Inv-loop μ-loop) → c .before .loop .y * (4 * c .before .before .before .before .before .before .screen-width .result) < 18446744073709551616
-at c = omega (arith, room c, out-long c)
+at : (c : tie.In-loop Inv-loop μ-loop) → c .before .loop .y * S c < 18446744073709551616
+at c = omega (arith, room c, c .before .loop .inv .2)
 
-to : (c : tie.In-loop Inv-loop μ-loop) → c .before .loop .y * (4 * c .before .before .before .before .before .before .screen-width .result) + 4 * c .before .before .before .before .before .before .screen-width .result < 18446744073709551616
-to c = omega (arith, room c, out-long c)
+to : (c : tie.In-loop Inv-loop μ-loop) → c .before .loop .y * S c + S c < 18446744073709551616
+to c = omega (arith, room c, c .before .loop .inv .2)
+
+-- the line as it is lent
+long : (c : tie.In-loop Inv-loop μ-loop)
+    → (let at = c .before .loop .y * S c in length (take (at + S c - at) (drop at (c .before .loop .out))))
+    ≡ 4 * widthOf (now (start c .args .w))
+long c = length-lent _ _ _ (room c) ∙ stride c
 
 mul-at : tie.Need-mul-at Inv-loop μ-loop
 mul-at c = record { fits = at c }
@@ -86,18 +109,18 @@ part-lay-line-end : tie.Need-part-lay-line-end Inv-loop μ-loop
 part-lay-line-end c = room c
 
 slice-aggregate-lay-line : tie.Need-slice-aggregate-lay-line Inv-loop μ-loop
-slice-aggregate-lay-line c = sym (c .before .before .before .loop .inv .2)
+slice-aggregate-lay-line c = sym (c .before .before .before .loop .inv .3)
 
 slice-aggregate-lay-line-2 : tie.Need-slice-aggregate-lay-line-2 Inv-loop μ-loop
-slice-aggregate-lay-line-2 c = sym (c .before .before .before .before .loop .inv .3)
+slice-aggregate-lay-line-2 c = sym (c .before .before .before .before .loop .inv .4)
 
 lay-line-requires : tie.Need-lay-line-requires Inv-loop μ-loop
 lay-line-requires c κs =
-    let a = c .before .before .before .before .before .before .before .before .before .before .before .before .before in
-    let i = c .before .before .before .before .loop .inv in
-    let turn = c .before .before .before in (
-      a .pre .0,
-      (lent-long _ _ _ (room turn) ∙ stride turn, a .pre .1 .2, a .pre .1 .3, record { wide = omega (arith, i .2); long = omega (arith, i .3) }, c .before .before .before .before .before .before .before .ground-of .ensures),
+    let turn = c .before .before .before in
+    let i = turn .before .loop .inv in
+    let e = long turn in (
+      (rw e (omega arith), rw e (start turn .pre .1)),
+      rw e (record { wide = omega (arith, i .3); long = omega (arith, i .4) }),
     )
 
 add-y : tie.Need-add-y Inv-loop μ-loop
@@ -108,21 +131,33 @@ loop-less c = search needs
 
 loop-again : tie.Need-loop-again Inv-loop μ-loop
 loop-again c =
-    let a = c .before .before .before .before .before .before .before .before .before .before .before .before .before .before .before .before .before .before in
-    let i = c .before .before .before .before .before .before .before .before .before .loop .inv in
-    let turn = c .before .before .before .before .before .before .before .before in (
+    let turn = c .before .before .before .before .before .before .before .before in
+    let i = turn .before .loop .inv in
+    let ground = turn .before .before .before .before .ground-of .ensures in
+    let r = c .before .before .before .before .lay-line in (
       search needs,
-      rows-lent _ _ _ _ (a .pre .1 .1) _ _ _ _ _ (stride turn) (room turn) (i .1) (c .before .before .before .before .lay-line .ensures),
-      c .before .before .before .before .lay-line .kept .1 .0 ∙ i .2,
-      c .before .before .before .before .lay-line .kept .1 .1 .0 ∙ i .3,
+      λ s low high same band.
+          let q = stride turn ∙ ap (λ (w : List ℕ). 4 * widthOf w) (sym (same .0)) in
+          rows-lent s low high _ (wide (start turn) s (same .0)) _ _ _ _ _ q (room turn) (i .1 s low high same band)
+          (r .ensures .laid s low high (same .1) (length-lent _ _ _ (room turn) ∙ q)
+          (ground ∙ ap groundsOf (sym (same .0))) band),
+      search needs,
+      r .kept .1 .0 ∙ i .3,
+      r .kept .1 .1 .0 ∙ i .4,
     )
 
 same-length : tie.Need-same-length Inv-loop μ-loop
-same-length c = ap length (c .before .loop .inv .1) ∙ length-each _ _
+same-length c = c .before .loop .inv .2
 
 returns : tie.Need-returns Inv-loop μ-loop
 returns c =
-    rows-all _ _ _ _ (c .before .before .before .before .before .before .before .before .before .before .pre .1 .1) _ _ _ (omega (arith, c .before .before .before .before .before .screen-height .ensures)) (c .before .before .before .before .before .before .before .before .before .before .pre .1 .0) (c .before .loop .inv .1)
+    let a = c .before .before .before .before .before .before .before .before .before .before in
+    let height = c .before .before .before .before .before .screen-height .ensures in
+    record {
+      laid = λ s low high same band.
+          rows-all s low high _ (wide a s (same .0)) _ _ _ (rw (same .0) (omega (arith, height)))
+          (rw (same .0) (a .pre .0 .0)) (c .before .loop .inv .1 s low high same band);
+    }
 
 pub paint-rows-spec : {M : Type 1} → statement M
 paint-rows-spec =

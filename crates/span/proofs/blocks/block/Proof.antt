@@ -1,9 +1,8 @@
 -- `span::blocks::block` meets its contract: a block whose own alphas are all 0 or all 255 is what
 -- one alpha of 0 or 255 makes of it. Assumes nothing.
-use mathlib.Core.Path.{refl}
 use borrow.Author.Needs.{needs}
 use Rattle.span.proofs.LaneLaws.{alpha-all}
-use Rattle.span.proofs.OverParts.{clear-block, own-part}
+use Rattle.span.proofs.OverParts.{own-clear, own-copied}
 use Rattle.span.proofs.blocks.block.Statement.{statement}
 use Rattle.span.proofs.blocks.block.Tie as tie
 
@@ -20,7 +19,7 @@ all-clear-requires : tie.Need-all-clear-requires
 all-clear-requires c κs = search needs
 
 returns : tie.Need-returns
-returns c = own-part _ _ 16 0 (search needs) (alpha-all (c .before .before .pixels .ensures) (c .before .all-clear .ensures (search needs))) refl (clear-block _ _ _)
+returns c = search (own-clear, alpha-all, needs)
 
 blend16-requires : tie.Need-blend16-requires
 blend16-requires c κs = search needs
@@ -44,10 +43,7 @@ same-length-2 : tie.Need-same-length-2
 same-length-2 c = search needs
 
 returns-3 : tie.Need-returns-3
-returns-3 c =
-    let tested = c .before .before .before .before .before in
-    let p = tested .before .pixels2 .ensures in
-    own-part _ _ 16 255 (search needs) (alpha-all p (tested .all-opaque .ensures (search needs))) refl (c .before .before .put16 .ensures .over _ p)
+returns-3 c = search (own-copied, alpha-all, needs)
 
 blend16-requires-2 : tie.Need-blend16-requires-2
 blend16-requires-2 c κs = search needs

@@ -7,44 +7,44 @@ use Rattle.span.proofs.OverParts.{pixel-part}
 use Rattle.span.proofs.blocks.pixel.Statement.{statement}
 use Rattle.span.proofs.blocks.pixel.Tie as tie
 
-shared-slice-read-blended-byte : tie.Need-shared-slice-read-blended-byte
-shared-slice-read-blended-byte c = search needs
+shared-slice-read-blend : tie.Need-shared-slice-read-blend
+shared-slice-read-blend c = search needs
 
-slice-read-blended-byte : tie.Need-slice-read-blended-byte
-slice-read-blended-byte c = search needs
+slice-read-blend : tie.Need-slice-read-blend
+slice-read-blend c = search needs
 
-blended-byte-requires : tie.Need-blended-byte-requires
-blended-byte-requires c κs = search needs
+blend-requires : tie.Need-blend-requires
+blend-requires c κs = search needs
 
-add-blended-byte : tie.Need-add-blended-byte
-add-blended-byte c = search needs
+add-blend : tie.Need-add-blend
+add-blend c = search needs
 
-shared-slice-read-blended-byte-2 : tie.Need-shared-slice-read-blended-byte-2
-shared-slice-read-blended-byte-2 c = search needs
+shared-slice-read-blend-2 : tie.Need-shared-slice-read-blend-2
+shared-slice-read-blend-2 c = search needs
 
-add-blended-byte-2 : tie.Need-add-blended-byte-2
-add-blended-byte-2 c = search needs
+add-blend-2 : tie.Need-add-blend-2
+add-blend-2 c = search needs
 
-slice-read-blended-byte-2 : tie.Need-slice-read-blended-byte-2
-slice-read-blended-byte-2 c = search needs
+slice-read-blend-2 : tie.Need-slice-read-blend-2
+slice-read-blend-2 c = search needs
 
-blended-byte-requires-2 : tie.Need-blended-byte-requires-2
-blended-byte-requires-2 c κs = search needs
+blend-requires-2 : tie.Need-blend-requires-2
+blend-requires-2 c κs = search needs
 
-add-blended-byte-3 : tie.Need-add-blended-byte-3
-add-blended-byte-3 c = search needs
+add-blend-3 : tie.Need-add-blend-3
+add-blend-3 c = search needs
 
-shared-slice-read-blended-byte-3 : tie.Need-shared-slice-read-blended-byte-3
-shared-slice-read-blended-byte-3 c = search needs
+shared-slice-read-blend-3 : tie.Need-shared-slice-read-blend-3
+shared-slice-read-blend-3 c = search needs
 
-add-blended-byte-4 : tie.Need-add-blended-byte-4
-add-blended-byte-4 c = search needs
+add-blend-4 : tie.Need-add-blend-4
+add-blend-4 c = search needs
 
-slice-read-blended-byte-3 : tie.Need-slice-read-blended-byte-3
-slice-read-blended-byte-3 c = search needs
+slice-read-blend-3 : tie.Need-slice-read-blend-3
+slice-read-blend-3 c = search needs
 
-blended-byte-requires-3 : tie.Need-blended-byte-requires-3
-blended-byte-requires-3 c κs = search needs
+blend-requires-3 : tie.Need-blend-requires-3
+blend-requires-3 c κs = search needs
 
 slice-write-out : tie.Need-slice-write-out
 slice-write-out c = search needs
@@ -71,19 +71,19 @@ pub pixel-spec : {M : Type 1} → statement M
 pixel-spec =
     tie.close
     (tie.spec
-    shared-slice-read-blended-byte
-    slice-read-blended-byte
-    blended-byte-requires
-    add-blended-byte
-    shared-slice-read-blended-byte-2
-    add-blended-byte-2
-    slice-read-blended-byte-2
-    blended-byte-requires-2
-    add-blended-byte-3
-    shared-slice-read-blended-byte-3
-    add-blended-byte-4
-    slice-read-blended-byte-3
-    blended-byte-requires-3
+    shared-slice-read-blend
+    slice-read-blend
+    blend-requires
+    add-blend
+    shared-slice-read-blend-2
+    add-blend-2
+    slice-read-blend-2
+    blend-requires-2
+    add-blend-3
+    shared-slice-read-blend-3
+    add-blend-4
+    slice-read-blend-3
+    blend-requires-3
     slice-write-out
     add-out
     slice-write-out-2

@@ -25,9 +25,7 @@ same-length : tie.Need-same-length
 same-length c = search needs
 
 returns : tie.Need-returns
-returns c =
-    let tested = c .before .before .before .before .before in
-    lay-clear _ _ (search needs) _ (alpha-all (tested .before .pixels .ensures) (tested .all-clear .ensures (search needs))) (c .before .before .repeat16 .ensures)
+returns c = search (lay-clear, alpha-all, needs)
 
 lay16-requires : tie.Need-lay16-requires
 lay16-requires c κs = search needs
@@ -64,8 +62,9 @@ returns-3 c =
     let join = c .before .before .before .before .before in
     let tested = join .before .before .before in
     let p = tested .before .pixels2 .ensures in
-    lay-copied _ _ (search needs) _ p (join .before .repeated .ensures) (join .joined .ensures) (c .before .before .before .before .halves .ensures)
-    (alpha-all p (tested .all-opaque .ensures (search needs))) (c .before .before .store .ensures)
+    lay-copied _ _ (search needs) _ p (join .before .repeated .ensures) (join .joined .ensures)
+    (c .before .before .before .before .halves .ensures) (alpha-all p (tested .all-opaque .ensures) (search needs))
+    (c .before .before .store .ensures)
 
 lay16-requires-2 : tie.Need-lay16-requires-2
 lay16-requires-2 c κs = search needs

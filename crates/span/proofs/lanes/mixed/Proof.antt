@@ -1,22 +1,20 @@
 -- `span::lanes::mixed` meets its contract: the loop has filled the first k words as the contract
 -- says; the measure is what is left. Assumes nothing.
-use mathlib.Core.Path.{_≡_}
-use Prim.Native.Nat.{_-_, _≤_}
-use lib.ListN.{length}
+use Prim.Native.Nat.{_-_}
 use borrow.Author.Needs.{needs}
-use Rattle.span.specs.Lanes.{Lanes, MixIs}
-use Rattle.span.proofs.LaneLaws.{lanes-none, lanes-done, mix-lane}
+use Rattle.span.specs.Engine.Lanes.{MixIs}
+use Rattle.span.proofs.LaneLaws.{Filled, filled-none, filled-done, mix-lane}
 use Rattle.span.proofs.lanes.mixed.Statement.{statement}
 use Rattle.span.proofs.lanes.mixed.Tie as tie
 
 abbrev Inv-loop : tie.InvT-loop
-Inv-loop alphas over under w₀ k₀ w k = (k ≤ 32) × (length w ≡ 32) × Lanes w k (MixIs alphas over under)
+Inv-loop alphas over under w₀ k₀ w k = Filled w 32 k (MixIs alphas over under)
 
 abbrev μ-loop : tie.MeasureT-loop
 μ-loop alphas over under w₀ k₀ w k = 32 - k
 
 loop-holds : tie.Need-loop-holds Inv-loop μ-loop
-loop-holds c = (search needs, search needs, lanes-none _ _)
+loop-holds c = filled-none _ (search needs)
 
 mul-mixed-word : tie.Need-mul-mixed-word Inv-loop μ-loop
 mul-mixed-word c = search needs
@@ -55,7 +53,7 @@ loop-again : tie.Need-loop-again Inv-loop μ-loop
 loop-again c = search (mix-lane, needs)
 
 returns : tie.Need-returns Inv-loop μ-loop
-returns c = lanes-done (c .before .loop .inv .2) (search needs)
+returns c = search (filled-done, needs)
 
 pub mixed-spec : {M : Type 1} → statement M
 mixed-spec =

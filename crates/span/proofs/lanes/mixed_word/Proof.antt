@@ -31,8 +31,10 @@ join-requires c κs = search needs
 returns : tie.Need-returns
 returns c =
     let even = c .before .before .before .before .before in
-    mixed-word-is _ _ _ _ _ (c .join .ensures) (even .blended .ensures) (c .before .blended2 .ensures) (even .before .before .low .ensures) (even .before .low2 .ensures)
-    (c .before .before .before .before .high-alpha .ensures) (c .before .before .before .high .ensures) (c .before .before .high2 .ensures)
+    mixed-word-is _ _ _ _ _ (c .join .ensures) (even .blended .ensures) (c .before .blended2 .ensures)
+    (even .before .before .low .ensures) (even .before .low2 .ensures)
+    (c .before .before .before .before .high-alpha .ensures) (c .before .before .before .high .ensures)
+    (c .before .before .high2 .ensures)
 
 pub mixed-word-spec : {M : Type 1} → statement M
 mixed-word-spec =

@@ -1,23 +1,20 @@
 -- `span::lanes::own_alphas` meets its contract: the loop has filled both words of the first k
 -- pixels; the measure is what is left. Assumes nothing.
-use mathlib.Core.Path.{_≡_}
-use Prim.Native.Nat.{_-_, _*_, _≤_}
-use native.Mathlib.Omega.{arith}
-use lib.ListN.{length, length-set}
+use Prim.Native.Nat.{_-_, _*_}
 use borrow.Author.Needs.{needs}
-use Rattle.span.specs.Lanes.{Lanes, HighIs}
-use Rattle.span.proofs.LaneLaws.{lanes-none, lanes-done, high-lanes}
+use Rattle.span.specs.Engine.Lanes.{HighIs}
+use Rattle.span.proofs.LaneLaws.{Filled, filled-none, filled-both, high-lanes}
 use Rattle.span.proofs.lanes.own_alphas.Statement.{statement}
 use Rattle.span.proofs.lanes.own_alphas.Tie as tie
 
 abbrev Inv-loop : tie.InvT-loop
-Inv-loop over w₀ k₀ w k = (k ≤ 16) × (length w ≡ 32) × Lanes w (2 * k) (HighIs over)
+Inv-loop over w₀ k₀ w k = Filled w 32 (2 * k) (HighIs over)
 
 abbrev μ-loop : tie.MeasureT-loop
 μ-loop over w₀ k₀ w k = 16 - k
 
 loop-holds : tie.Need-loop-holds Inv-loop μ-loop
-loop-holds c = (search needs, search needs, lanes-none _ _)
+loop-holds c = filled-none _ (search needs)
 
 mul-high : tie.Need-mul-high Inv-loop μ-loop
 mul-high c = search needs
@@ -77,10 +74,10 @@ loop-less : tie.Need-loop-less Inv-loop μ-loop
 loop-less c = search needs
 
 loop-again : tie.Need-loop-again Inv-loop μ-loop
-loop-again c = (search needs, simp length-set (search needs), search (high-lanes, needs))
+loop-again c = search (high-lanes, needs)
 
 returns : tie.Need-returns Inv-loop μ-loop
-returns c = lanes-done (c .before .loop .inv .2) (omega arith)
+returns c = search (filled-both, needs)
 
 pub own-alphas-spec : {M : Type 1} → statement M
 own-alphas-spec =

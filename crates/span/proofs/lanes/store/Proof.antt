@@ -5,14 +5,15 @@ use Prim.Native.Nat.{_+_, _-_, _*_, _≤_}
 use native.Mathlib.Omega.{arith}
 use lib.ListN.{length, length-set}
 use borrow.Author.Needs.{needs}
-use Rattle.span.specs.Lanes.{Part, anew, storeByte}
+use Rattle.span.specs.Engine.Lanes.{Part, anew, storeByte}
 use Rattle.span.proofs.PartLaws.{part-none, part-to}
 use Rattle.span.proofs.LaneLaws.{store-turn}
 use Rattle.span.proofs.lanes.store.Statement.{statement}
 use Rattle.span.proofs.lanes.store.Tie as tie
 
 abbrev Inv-loop : tie.InvT-loop
-Inv-loop out₀ at w k₀ out k = (k ≤ 32) × (length out ≡ length out₀) × Part out out₀ (anew (storeByte w at)) at (at + 2 * k)
+Inv-loop out₀ at w k₀ out k =
+    (k ≤ 32) × (length out ≡ length out₀) × Part out out₀ (anew (storeByte w at)) at (at + 2 * k)
 
 abbrev μ-loop : tie.MeasureT-loop
 μ-loop out₀ at w k₀ out k = 32 - k

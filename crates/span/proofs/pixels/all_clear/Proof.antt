@@ -3,7 +3,7 @@
 use Prim.Native.Nat.{_-_, _≤_}
 use borrow.Author.Needs.{needs}
 use borrow.Author.Tests.{ltb-true}
-use Rattle.span.specs.Lanes.{Lanes}
+use Rattle.span.specs.Engine.Lanes.{Lanes}
 use Rattle.span.proofs.LaneLaws.{AtMost, lanes-none, most-turn, most-clear}
 use Rattle.span.proofs.pixels.all_clear.Statement.{statement}
 use Rattle.span.proofs.pixels.all_clear.Tie as tie
@@ -41,4 +41,14 @@ returns c = λ e. most-clear (c .before .loop .inv .1) (search needs) (ltb-true 
 pub all-clear-spec : {M : Type 1} → statement M
 all-clear-spec =
     tie.close
-    (tie.spec Inv-loop μ-loop loop-holds mul-either array-read-either either-requires add-k loop-less loop-again returns)
+    (tie.spec
+    Inv-loop
+    μ-loop
+    loop-holds
+    mul-either
+    array-read-either
+    either-requires
+    add-k
+    loop-less
+    loop-again
+    returns)

@@ -3,7 +3,7 @@
 use Prim.Native.Nat.{_-_, _≤_}
 use borrow.Author.Needs.{needs}
 use borrow.Author.Tests.{leb-true}
-use Rattle.span.specs.Lanes.{Lanes}
+use Rattle.span.specs.Engine.Lanes.{Lanes}
 use Rattle.span.proofs.LaneLaws.{AtLeast, lanes-none, least-turn, least-opaque}
 use Rattle.span.proofs.pixels.all_opaque.Statement.{statement}
 use Rattle.span.proofs.pixels.all_opaque.Tie as tie
@@ -41,4 +41,14 @@ returns c = λ e. least-opaque (c .before .loop .inv .1) (search needs) (leb-tru
 pub all-opaque-spec : {M : Type 1} → statement M
 all-opaque-spec =
     tie.close
-    (tie.spec Inv-loop μ-loop loop-holds mul-common array-read-common common-requires add-k loop-less loop-again returns)
+    (tie.spec
+    Inv-loop
+    μ-loop
+    loop-holds
+    mul-common
+    array-read-common
+    common-requires
+    add-k
+    loop-less
+    loop-again
+    returns)

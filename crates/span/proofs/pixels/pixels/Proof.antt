@@ -1,22 +1,20 @@
 -- `span::pixels::pixels` meets its contract: the loop has filled the first k pixels as the contract
 -- says; the measure is what is left. Assumes nothing.
-use mathlib.Core.Path.{_≡_}
-use Prim.Native.Nat.{_-_, _≤_}
-use lib.ListN.{length}
+use Prim.Native.Nat.{_-_}
 use borrow.Author.Needs.{needs}
-use Rattle.span.specs.Lanes.{Lanes, PixelIs}
-use Rattle.span.proofs.LaneLaws.{lanes-none, lanes-done, pixel-lane}
+use Rattle.span.specs.Engine.Lanes.{PixelIs}
+use Rattle.span.proofs.LaneLaws.{Filled, filled-none, filled-done, pixel-lane}
 use Rattle.span.proofs.pixels.pixels.Statement.{statement}
 use Rattle.span.proofs.pixels.pixels.Tie as tie
 
 abbrev Inv-loop : tie.InvT-loop
-Inv-loop s at w₀ k₀ w k = (k ≤ 16) × (length w ≡ 16) × Lanes w k (PixelIs s at)
+Inv-loop s at w₀ k₀ w k = Filled w 16 k (PixelIs s at)
 
 abbrev μ-loop : tie.MeasureT-loop
 μ-loop s at w₀ k₀ w k = 16 - k
 
 loop-holds : tie.Need-loop-holds Inv-loop μ-loop
-loop-holds c = (search needs, search needs, lanes-none _ _)
+loop-holds c = filled-none _ (search needs)
 
 mul-pixel-of : tie.Need-mul-pixel-of Inv-loop μ-loop
 mul-pixel-of c = search needs
@@ -79,10 +77,10 @@ loop-less : tie.Need-loop-less Inv-loop μ-loop
 loop-less c = search needs
 
 loop-again : tie.Need-loop-again Inv-loop μ-loop
-loop-again c = (search needs, search needs, search (pixel-lane, needs))
+loop-again c = search (pixel-lane, needs)
 
 returns : tie.Need-returns Inv-loop μ-loop
-returns c = lanes-done (c .before .loop .inv .2) (search needs)
+returns c = search (filled-done, needs)
 
 pub pixels-spec : {M : Type 1} → statement M
 pixels-spec =

@@ -1,22 +1,20 @@
 -- `span::pixels::repeated` meets its contract: the loop has filled the first k pixels as the
 -- contract says; the measure is what is left. Assumes nothing.
-use mathlib.Core.Path.{_≡_}
-use Prim.Native.Nat.{_-_, _≤_}
-use lib.ListN.{length}
+use Prim.Native.Nat.{_-_}
 use borrow.Author.Needs.{needs}
-use Rattle.span.specs.Lanes.{Lanes, SameIs}
-use Rattle.span.proofs.LaneLaws.{lanes-none, lanes-turn, lanes-done}
+use Rattle.span.specs.Engine.Lanes.{SameIs}
+use Rattle.span.proofs.LaneLaws.{Filled, filled-none, filled-done, filled-turn}
 use Rattle.span.proofs.pixels.repeated.Statement.{statement}
 use Rattle.span.proofs.pixels.repeated.Tie as tie
 
 abbrev Inv-loop : tie.InvT-loop
-Inv-loop c w₀ k₀ w k = (k ≤ 16) × (length w ≡ 16) × Lanes w k (SameIs c)
+Inv-loop c w₀ k₀ w k = Filled w 16 k (SameIs c)
 
 abbrev μ-loop : tie.MeasureT-loop
 μ-loop c w₀ k₀ w k = 16 - k
 
 loop-holds : tie.Need-loop-holds Inv-loop μ-loop
-loop-holds c = (search needs, search needs, lanes-none _ _)
+loop-holds c = filled-none _ (search needs)
 
 mul-w : tie.Need-mul-w Inv-loop μ-loop
 mul-w c = search needs
@@ -31,10 +29,10 @@ loop-less : tie.Need-loop-less Inv-loop μ-loop
 loop-less c = search needs
 
 loop-again : tie.Need-loop-again Inv-loop μ-loop
-loop-again c = search (lanes-turn, needs)
+loop-again c = search (filled-turn, needs)
 
 returns : tie.Need-returns Inv-loop μ-loop
-returns c = lanes-done (c .before .loop .inv .2) (search needs)
+returns c = search (filled-done, needs)
 
 pub repeated-spec : {M : Type 1} → statement M
 repeated-spec =

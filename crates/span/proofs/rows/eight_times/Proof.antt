@@ -10,7 +10,8 @@ mul-result : tie.Need-mul-result
 mul-result c = search needs
 
 returns : tie.Need-returns
-returns c = (byte-four-times (c .args .c) (omega arith) (omega arith), byte-four-times (c .args .c) (omega arith) (omega arith))
+returns c =
+    (byte-four-times (c .args .c) (omega arith) (omega arith), byte-four-times (c .args .c) (omega arith) (omega arith))
 
 pub eight-times-spec : {M : Type 1} → statement M
 eight-times-spec = tie.close (tie.spec mul-result returns)

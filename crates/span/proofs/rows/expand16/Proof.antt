@@ -6,7 +6,7 @@ use native.Mathlib.Omega.{arith}
 use lib.ListN.{length}
 use borrow.Author.Needs.{needs}
 use Rattle.span.specs.Span.{colourByte}
-use Rattle.span.specs.Lanes.{Part, anew}
+use Rattle.span.specs.Engine.Lanes.{Part, anew}
 use Rattle.span.proofs.PartLaws.{part-none, part-to}
 use Rattle.span.proofs.RowParts.{colour-four}
 use Rattle.span.proofs.rows.expand16.Statement.{statement}
@@ -14,7 +14,8 @@ use Rattle.span.proofs.rows.expand16.Tie as tie
 
 abbrev Inv-loop : tie.InvT-loop
 Inv-loop line palette row₀ from k₀ row k =
-    (k ≤ 4) × (length row ≡ length row₀) × Part row row₀ (anew (colourByte line palette)) (4 * from) (4 * (from + 4 * k))
+    (k ≤ 4) × (length row ≡ length row₀)
+    × Part row row₀ (anew (colourByte line palette)) (4 * from) (4 * (from + 4 * k))
 
 abbrev μ-loop : tie.MeasureT-loop
 μ-loop line palette row₀ from k₀ row k = 4 - k
@@ -108,7 +109,8 @@ loop-again c =
       search needs,
       search needs,
       part-to (colour-four _ _ _ _ _ _ _ (head .loop .inv .2) (omega arith) (put .put-words .ensures)
-          (first .index-of .ensures .0) (second .index-of2 .ensures .0) (third .index-of3 .ensures .0) (fourth .index-of4 .ensures .0)) (omega arith),
+          (first .index-of .ensures .0) (second .index-of2 .ensures .0) (third .index-of3 .ensures .0)
+          (fourth .index-of4 .ensures .0)) (omega arith),
     )
 
 same-length : tie.Need-same-length Inv-loop μ-loop

@@ -33,7 +33,8 @@ returns : tie.Need-returns
 returns c =
     let index = c .before .before .before .before .before in
     let tested = index .before .before .before in
-    colour-same _ _ _ _ (c .before .before .repeat16 .ensures) (index .index-of .ensures .0) (tested .is-one .ensures (index .before .before .if1 .taken))
+    colour-same _ _ _ _ (c .before .before .repeat16 .ensures) (index .index-of .ensures .0)
+    (tested .is-one .ensures (index .before .before .if1 .taken))
 
 expand16-requires : tie.Need-expand16-requires
 expand16-requires c κs = search needs

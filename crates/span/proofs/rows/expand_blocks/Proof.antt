@@ -1,24 +1,23 @@
 -- `span::rows::expand_blocks` meets its contract: the loop has written the pixels of the first j indexes;
 -- the measure is what is left. Assumes nothing.
-use mathlib.Core.Path.{_≡_}
-use Prim.Native.Nat.{_-_, _*_, _≤_}
-use native.Mathlib.Omega.{arith}
+use Prim.Native.Nat.{_-_, _*_}
 use lib.ListN.{length}
 use borrow.Author.Needs.{needs}
 use Rattle.span.specs.Span.{colourByte}
-use Rattle.span.specs.Lanes.{Part, anew}
-use Rattle.span.proofs.PartLaws.{part-none, part-then}
+use Rattle.span.specs.Engine.Lanes.{Front, anew}
+use Rattle.span.proofs.PartLaws.{front-none}
+use Rattle.span.proofs.RowParts.{colour-block}
 use Rattle.span.proofs.rows.expand_blocks.Statement.{statement}
 use Rattle.span.proofs.rows.expand_blocks.Tie as tie
 
 abbrev Inv-loop : tie.InvT-loop
-Inv-loop line palette row₀ j₀ row j = (j ≤ length line) × (length row ≡ length row₀) × Part row row₀ (anew (colourByte line palette)) 0 (4 * j)
+Inv-loop line palette row₀ j₀ row j = Front row row₀ (anew (colourByte line palette)) (4 * j)
 
 abbrev μ-loop : tie.MeasureT-loop
 μ-loop line palette row₀ j₀ row j = length line - j
 
 loop-holds : tie.Need-loop-holds Inv-loop μ-loop
-loop-holds c = (search needs, search needs, part-none _ _ _ _ (omega arith))
+loop-holds c = front-none _ _
 
 sub-loop : tie.Need-sub-loop Inv-loop μ-loop
 sub-loop c = search needs
@@ -33,11 +32,7 @@ loop-less : tie.Need-loop-less Inv-loop μ-loop
 loop-less c = search needs
 
 loop-again : tie.Need-loop-again Inv-loop μ-loop
-loop-again c = (
-  search needs,
-  search needs,
-  part-then (c .before .before .before .before .before .loop .inv .2) (c .before .before .expand-block .ensures) (omega arith) (omega arith),
-)
+loop-again c = search (colour-block, needs)
 
 same-length : tie.Need-same-length Inv-loop μ-loop
 same-length c = search needs

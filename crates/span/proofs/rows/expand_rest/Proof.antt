@@ -1,25 +1,24 @@
 -- `span::rows::expand_rest` meets its contract: the loop has written the pixels of the indexes from
 -- `from` up to j; the measure is what is left. Assumes nothing.
-use mathlib.Core.Path.{_≡_}
-use Prim.Native.Nat.{_-_, _*_, _≤_}
+use Prim.Native.Nat.{_-_, _*_}
 use native.Mathlib.Omega.{arith}
 use lib.ListN.{length}
 use borrow.Author.Needs.{needs}
 use Rattle.span.specs.Span.{colourByte}
-use Rattle.span.specs.Lanes.{Part, anew}
-use Rattle.span.proofs.PartLaws.{part-none, part-to}
+use Rattle.span.specs.Engine.Lanes.{Reach, anew}
+use Rattle.span.proofs.PartLaws.{part-to, reach-none}
 use Rattle.span.proofs.RowParts.{colour-turn}
 use Rattle.span.proofs.rows.expand_rest.Statement.{statement}
 use Rattle.span.proofs.rows.expand_rest.Tie as tie
 
 abbrev Inv-loop : tie.InvT-loop
-Inv-loop line palette row₀ from j₀ row j = (4 * from ≤ 4 * j) × (j ≤ length line) × (length row ≡ length row₀) × Part row row₀ (anew (colourByte line palette)) (4 * from) (4 * j)
+Inv-loop line palette row₀ from j₀ row j = Reach row row₀ (anew (colourByte line palette)) (4 * from) (4 * j)
 
 abbrev μ-loop : tie.MeasureT-loop
 μ-loop line palette row₀ from j₀ row j = length line - j
 
 loop-holds : tie.Need-loop-holds Inv-loop μ-loop
-loop-holds c = (search needs, search needs, search needs, part-none _ _ _ _ (omega arith))
+loop-holds c = reach-none _ _ _ (search needs) (omega arith)
 
 shared-slice-read-index-of : tie.Need-shared-slice-read-index-of Inv-loop μ-loop
 shared-slice-read-index-of c = search needs
@@ -46,13 +45,13 @@ loop-less : tie.Need-loop-less Inv-loop μ-loop
 loop-less c = search needs
 
 loop-again : tie.Need-loop-again Inv-loop μ-loop
-loop-again c = (search needs, search needs, search needs, search (colour-turn, needs))
+loop-again c = search (colour-turn, needs)
 
 same-length : tie.Need-same-length Inv-loop μ-loop
 same-length c = search needs
 
 returns : tie.Need-returns Inv-loop μ-loop
-returns c = part-to (c .before .loop .inv .3) (omega arith)
+returns c = part-to (c .before .loop .inv .part) (omega arith)
 
 pub expand-rest-spec : {M : Type 1} → statement M
 expand-rest-spec =

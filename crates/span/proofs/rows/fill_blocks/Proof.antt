@@ -1,19 +1,17 @@
 -- `span::rows::fill_blocks` meets its contract: the loop has filled a part of the row, from its
 -- front up to i; the measure is what is left. Assumes nothing.
-use mathlib.Core.Path.{_≡_}
-use Prim.Native.Nat.{_-_, _%_, _≤_}
-use native.Mathlib.Omega.{arith}
+use Prim.Native.Nat.{_-_}
 use lib.ListN.{length}
 use borrow.Author.Needs.{needs}
-use Rattle.span.specs.Span.{fillByte}
-use Rattle.span.specs.Lanes.{Part, anew}
-use Rattle.span.proofs.PartLaws.{part-none}
+use Rattle.span.specs.Span.{solidByte}
+use Rattle.span.specs.Engine.Lanes.{Front, anew}
+use Rattle.span.proofs.PartLaws.{front-none}
 use Rattle.span.proofs.RowParts.{fill-turn}
 use Rattle.span.proofs.rows.fill_blocks.Statement.{statement}
 use Rattle.span.proofs.rows.fill_blocks.Tie as tie
 
 abbrev Inv-loop : tie.InvT-loop
-Inv-loop out₀ c0 c1 c2 w i₀ out i = (i % 4 ≡ 0) × (i ≤ length out₀) × (length out ≡ length out₀) × Part out out₀ (anew (fillByte c0 c1 c2)) 0 i
+Inv-loop out₀ c0 c1 c2 w i₀ out i = Front out out₀ (anew (solidByte c0 c1 c2)) i
 
 abbrev μ-loop : tie.MeasureT-loop
 μ-loop out₀ c0 c1 c2 w i₀ out i = length out₀ - i
@@ -28,7 +26,7 @@ halves-requires : tie.Need-halves-requires Inv-loop μ-loop
 halves-requires c κs = search needs
 
 loop-holds : tie.Need-loop-holds Inv-loop μ-loop
-loop-holds c = (search needs, search needs, search needs, part-none _ _ _ _ (omega arith))
+loop-holds c = front-none _ _
 
 sub-loop : tie.Need-sub-loop Inv-loop μ-loop
 sub-loop c = search needs
@@ -43,7 +41,7 @@ loop-less : tie.Need-loop-less Inv-loop μ-loop
 loop-less c = search needs
 
 loop-again : tie.Need-loop-again Inv-loop μ-loop
-loop-again c = (search needs, search needs, search needs, search (fill-turn, needs))
+loop-again c = search (fill-turn, needs)
 
 same-length : tie.Need-same-length Inv-loop μ-loop
 same-length c = search needs

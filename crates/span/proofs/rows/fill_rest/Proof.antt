@@ -1,24 +1,22 @@
 -- `span::rows::fill_rest` meets its contract: the loop has filled a part of the row, from `from` up
 -- to i; the measure is what is left. Assumes nothing.
-use mathlib.Core.Path.{_≡_}
-use Prim.Native.Nat.{_-_, _%_, _≤_}
-use native.Mathlib.Omega.{arith}
+use Prim.Native.Nat.{_-_}
 use lib.ListN.{length}
 use borrow.Author.Needs.{needs}
-use Rattle.span.specs.Span.{fillByte}
-use Rattle.span.specs.Lanes.{Part, anew}
-use Rattle.span.proofs.PartLaws.{part-none, part-turn, part-to}
+use Rattle.span.specs.Span.{solidByte}
+use Rattle.span.specs.Engine.Lanes.{Reach, anew}
+use Rattle.span.proofs.PartLaws.{pixel-turn, reach-end, reach-long, reach-none}
 use Rattle.span.proofs.rows.fill_rest.Statement.{statement}
 use Rattle.span.proofs.rows.fill_rest.Tie as tie
 
 abbrev Inv-loop : tie.InvT-loop
-Inv-loop out₀ from c0 c1 c2 i₀ out i = (from ≤ i) × (i % 4 ≡ 0) × (i ≤ length out₀) × (length out ≡ length out₀) × Part out out₀ (anew (fillByte c0 c1 c2)) from i
+Inv-loop out₀ from c0 c1 c2 i₀ out i = Reach out out₀ (anew (solidByte c0 c1 c2)) from i
 
 abbrev μ-loop : tie.MeasureT-loop
 μ-loop out₀ from c0 c1 c2 i₀ out i = length out₀ - i
 
 loop-holds : tie.Need-loop-holds Inv-loop μ-loop
-loop-holds c = (search needs, search needs, search needs, search needs, part-none _ _ _ _ (omega arith))
+loop-holds c = search (reach-none, needs)
 
 put4-requires : tie.Need-put4-requires Inv-loop μ-loop
 put4-requires c κs = search needs
@@ -30,13 +28,13 @@ loop-less : tie.Need-loop-less Inv-loop μ-loop
 loop-less c = search needs
 
 loop-again : tie.Need-loop-again Inv-loop μ-loop
-loop-again c = (search needs, search needs, search needs, search needs, search (part-turn, needs))
+loop-again c = search (pixel-turn, reach-long, needs)
 
 same-length : tie.Need-same-length Inv-loop μ-loop
 same-length c = search needs
 
 returns : tie.Need-returns Inv-loop μ-loop
-returns c = part-to (c .before .loop .inv .4) (omega arith)
+returns c = search (reach-end, reach-long, needs)
 
 pub fill-rest-spec : {M : Type 1} → statement M
 fill-rest-spec =

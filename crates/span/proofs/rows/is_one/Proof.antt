@@ -26,9 +26,17 @@ eight-requires-2 c κs = search needs
 
 returns-2 : tie.Need-returns-2
 returns-2 c = λ e.
-    same-sixteen (c .before .before .before .eight-times .ensures) (c .before .before .eight .ensures) (c .before .if1 .left) (c .eight2 .ensures) (eqb-true _ _ e)
+    same-sixteen (c .before .before .before .eight-times .ensures) (c .before .before .eight .ensures)
+    (c .before .if1 .left) (c .eight2 .ensures) (eqb-true _ _ e)
 
 pub is-one-spec : {M : Type 1} → statement M
 is-one-spec =
     tie.close
-    (tie.spec shared-slice-read-eight-times eight-times-requires eight-requires returns add-eight eight-requires-2 returns-2)
+    (tie.spec
+    shared-slice-read-eight-times
+    eight-times-requires
+    eight-requires
+    returns
+    add-eight
+    eight-requires-2
+    returns-2)

@@ -1,25 +1,23 @@
 -- `span::runs::flat_blocks` meets its contract: the loop has done a part of the run, from its front
 -- up to i; the measure is what is left. Assumes nothing.
-use mathlib.Core.Path.{_≡_}
 use mathlib.Core.Bool.{true}
-use Prim.Native.Nat.{_-_, _%_, _≤_}
-use native.Mathlib.Omega.{arith}
+use Prim.Native.Nat.{_-_}
 use lib.ListN.{length}
 use borrow.Author.Needs.{needs}
 use Rattle.span.specs.Span.{overByte}
-use Rattle.span.specs.Lanes.{Part}
-use Rattle.span.proofs.PartLaws.{part-none, part-turn}
+use Rattle.span.specs.Engine.Lanes.{Front}
+use Rattle.span.proofs.PartLaws.{block-turn, front-none}
 use Rattle.span.proofs.runs.flat_blocks.Statement.{statement}
 use Rattle.span.proofs.runs.flat_blocks.Tie as tie
 
 abbrev Inv-loop : tie.InvT-loop
-Inv-loop out₀ over alpha i₀ out i = (i % 4 ≡ 0) × (i ≤ length out₀) × (length out ≡ length out₀) × Part out out₀ (overByte over true alpha) 0 i
+Inv-loop out₀ over alpha i₀ out i = Front out out₀ (overByte over true alpha) i
 
 abbrev μ-loop : tie.MeasureT-loop
 μ-loop out₀ over alpha i₀ out i = length out₀ - i
 
 loop-holds : tie.Need-loop-holds Inv-loop μ-loop
-loop-holds c = (search needs, search needs, search needs, part-none _ _ _ _ (omega arith))
+loop-holds c = front-none _ _
 
 sub-loop : tie.Need-sub-loop Inv-loop μ-loop
 sub-loop c = search needs
@@ -34,7 +32,7 @@ loop-less : tie.Need-loop-less Inv-loop μ-loop
 loop-less c = search needs
 
 loop-again : tie.Need-loop-again Inv-loop μ-loop
-loop-again c = (search needs, search needs, search needs, search (part-turn, needs))
+loop-again c = search (block-turn, needs)
 
 same-length : tie.Need-same-length Inv-loop μ-loop
 same-length c = search needs

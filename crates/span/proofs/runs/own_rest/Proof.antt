@@ -1,26 +1,24 @@
 -- `span::runs::own_rest` meets its contract: the loop has done a part of the run, from `from` up to
 -- i; the measure is what is left. Assumes nothing.
-use mathlib.Core.Path.{_≡_}
 use mathlib.Core.Bool.{false}
-use Prim.Native.Nat.{_-_, _%_, _≤_}
-use native.Mathlib.Omega.{arith}
+use Prim.Native.Nat.{_-_}
 use lib.ListN.{length}
 use borrow.Author.Needs.{needs}
 use Rattle.span.specs.Span.{overByte}
-use Rattle.span.specs.Lanes.{Part}
-use Rattle.span.proofs.PartLaws.{part-none, part-to}
-use Rattle.span.proofs.OverParts.{pixel-turn}
+use Rattle.span.specs.Engine.Lanes.{Reach}
+use Rattle.span.proofs.PartLaws.{reach-end, reach-none}
+use Rattle.span.proofs.OverParts.{own-turn}
 use Rattle.span.proofs.runs.own_rest.Statement.{statement}
 use Rattle.span.proofs.runs.own_rest.Tie as tie
 
 abbrev Inv-loop : tie.InvT-loop
-Inv-loop out₀ over from i₀ out i = (from ≤ i) × (i % 4 ≡ 0) × (i ≤ length out₀) × (length out ≡ length out₀) × Part out out₀ (overByte over false 0) from i
+Inv-loop out₀ over from i₀ out i = Reach out out₀ (overByte over false 0) from i
 
 abbrev μ-loop : tie.MeasureT-loop
 μ-loop out₀ over from i₀ out i = length out₀ - i
 
 loop-holds : tie.Need-loop-holds Inv-loop μ-loop
-loop-holds c = (search needs, search needs, search needs, search needs, part-none _ _ _ _ (omega arith))
+loop-holds c = search (reach-none, needs)
 
 add-pixel : tie.Need-add-pixel Inv-loop μ-loop
 add-pixel c = search needs
@@ -38,13 +36,13 @@ loop-less : tie.Need-loop-less Inv-loop μ-loop
 loop-less c = search needs
 
 loop-again : tie.Need-loop-again Inv-loop μ-loop
-loop-again c = (search needs, search needs, search needs, search needs, search (pixel-turn, needs))
+loop-again c = search (own-turn, needs)
 
 same-length : tie.Need-same-length Inv-loop μ-loop
 same-length c = search needs
 
 returns : tie.Need-returns Inv-loop μ-loop
-returns c = part-to (c .before .loop .inv .4) (omega arith)
+returns c = search (reach-end, needs)
 
 pub own-rest-spec : {M : Type 1} → statement M
 own-rest-spec =

@@ -1,29 +1,27 @@
 -- `words::check::clash_below` meets its contract: the invariant is that none before m refuses; the measure
 -- is what is left. Assumes nothing.
 use borrow.Author.Needs.{needs}
-use Prim.Native.Nat.{_≤_, _-_}
-use mathlib.Core.Path.{_≡_}
-use Rattle.lists.specs.Runs.{firstOf}
-use Rattle.lists.proofs.First.{first-none, first-passes, first-stops, first-ends}
+use Prim.Native.Nat.{_-_}
 use Rattle.words.specs.Check.{clashAt, clashBelow}
+use Rattle.words.proofs.PassedLaws.{Passed, passed-none, passed-more, passed-stops, passed-all}
 use Rattle.words.proofs.check.clash_below.Statement.{statement}
 use Rattle.words.proofs.check.clash_below.Tie as tie
 
 abbrev Inv-loop : tie.InvT-loop
-Inv-loop w n m₀ m = (m ≤ n) × (firstOf m (clashAt w n) ≡ 0)
+Inv-loop w n m₀ m = Passed n (clashAt w n) m
 
 abbrev μ-loop : tie.MeasureT-loop
 μ-loop w n m₀ m = n - m
 
 loop-holds : tie.Need-loop-holds Inv-loop μ-loop
-loop-holds c = (search needs, first-none _)
+loop-holds c = search (passed-none, needs)
 
 clash-requires : tie.Need-clash-requires Inv-loop μ-loop
 clash-requires c κs = search needs
 
 returns : tie.Need-returns Inv-loop μ-loop
 unfolding clashBelow
-returns c = first-stops _ _ _ _ (search needs) (c .before .before .before .loop .inv .1) (c .before .clash .ensures) (c .if1 .taken)
+returns c = search (passed-stops, needs)
 
 add-m : tie.Need-add-m Inv-loop μ-loop
 add-m c = search needs
@@ -32,11 +30,11 @@ loop-less : tie.Need-loop-less Inv-loop μ-loop
 loop-less c = search needs
 
 loop-again : tie.Need-loop-again Inv-loop μ-loop
-loop-again c = (search needs, first-passes _ _ _ (c .before .before .before .loop .inv .1) (c .before .clash .ensures) (c .if1 .left))
+loop-again c = search (passed-more, needs)
 
 returns-2 : tie.Need-returns-2 Inv-loop μ-loop
 unfolding clashBelow
-returns-2 c = first-ends _ _ _ (search needs) (search needs) (c .before .loop .inv .1)
+returns-2 c = search (passed-all, needs)
 
 pub clash-below-spec : {M : Type 1} → statement M
 clash-below-spec =

@@ -1,28 +1,26 @@
 -- `words::check::first_place` meets its contract: the invariant is that none before n refuses; the measure
 -- is what is left. Assumes nothing.
 use borrow.Author.Needs.{needs}
-use Prim.Native.Nat.{_≤_, _-_}
-use mathlib.Core.Path.{_≡_}
-use Rattle.lists.specs.Runs.{firstOf}
-use Rattle.lists.proofs.First.{first-none, first-passes, first-stops, first-ends}
+use Prim.Native.Nat.{_-_}
 use Rattle.words.specs.Check.{placeAt}
+use Rattle.words.proofs.PassedLaws.{Passed, passed-none, passed-more, passed-stops, passed-all}
 use Rattle.words.proofs.check.first_place.Statement.{statement}
 use Rattle.words.proofs.check.first_place.Tie as tie
 
 abbrev Inv-loop : tie.InvT-loop
-Inv-loop w n₀ n = (n ≤ 8) × (firstOf n (placeAt w) ≡ 0)
+Inv-loop w n₀ n = Passed 8 (placeAt w) n
 
 abbrev μ-loop : tie.MeasureT-loop
 μ-loop w n₀ n = 8 - n
 
 loop-holds : tie.Need-loop-holds Inv-loop μ-loop
-loop-holds c = (search needs, first-none _)
+loop-holds c = search (passed-none, needs)
 
 place-requires : tie.Need-place-requires Inv-loop μ-loop
 place-requires c κs = search needs
 
 returns : tie.Need-returns Inv-loop μ-loop
-returns c = first-stops _ _ _ _ (search needs) (c .before .before .before .loop .inv .1) (c .before .place .ensures) (c .if1 .taken)
+returns c = search (passed-stops, needs)
 
 add-n : tie.Need-add-n Inv-loop μ-loop
 add-n c = search needs
@@ -31,10 +29,10 @@ loop-less : tie.Need-loop-less Inv-loop μ-loop
 loop-less c = search needs
 
 loop-again : tie.Need-loop-again Inv-loop μ-loop
-loop-again c = (search needs, first-passes _ _ _ (c .before .before .before .loop .inv .1) (c .before .place .ensures) (c .if1 .left))
+loop-again c = search (passed-more, needs)
 
 returns-2 : tie.Need-returns-2 Inv-loop μ-loop
-returns-2 c = first-ends _ _ _ (search needs) (search needs) (c .before .loop .inv .1)
+returns-2 c = search (passed-all, needs)
 
 pub first-place-spec : {M : Type 1} → statement M
 first-place-spec =

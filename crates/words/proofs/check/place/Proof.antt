@@ -19,7 +19,13 @@ place-of-requires c κs = search needs
 
 returns : tie.Need-returns
 unfolding placeAt
-returns c = rw (c .place-of .ensures, c .before .layer-of .ensures, c .before .before .screen-height .ensures, c .before .before .before .screen-width .ensures)
+returns c =
+    rw (
+      c .place-of .ensures,
+      c .before .layer-of .ensures,
+      c .before .before .screen-height .ensures,
+      c .before .before .before .screen-width .ensures,
+    )
 
 pub place-spec : {M : Type 1} → statement M
 place-spec =

@@ -20,7 +20,11 @@ returns-2 c =
 returns-3 : tie.Need-returns-3
 unfolding placeOf
 returns-3 c =
-    search (tests, not-false (c .before .before .before .before .before .before .args .l .on) (c .before .before .before .before .if1 .left))
+    search (
+      tests,
+      not-false (c .before .before .before .before .before .before .args .l .on)
+          (c .before .before .before .before .if1 .left),
+    )
 
 cast-if4 : tie.Need-cast-if4
 cast-if4 c = search needs
@@ -34,7 +38,11 @@ add-if4 c = search needs
 returns-4 : tie.Need-returns-4
 unfolding placeOf
 returns-4 c =
-    search (tests, not-false (c .before .before .before .before .before .before .before .before .before .args .l .on) (c .before .before .before .before .before .before .before .if1 .left))
+    search (
+      tests,
+      not-false (c .before .before .before .before .before .before .before .before .before .args .l .on)
+          (c .before .before .before .before .before .before .before .if1 .left),
+    )
 
 cast-if5 : tie.Need-cast-if5
 cast-if5 c = search needs
@@ -48,12 +56,24 @@ add-if5 c = search needs
 returns-5 : tie.Need-returns-5
 unfolding placeOf
 returns-5 c =
-    search (tests, not-false (c .before .before .before .before .before .before .before .before .before .before .before .before .args .l .on) (c .before .before .before .before .before .before .before .before .before .before .if1 .left))
+    search (
+      tests,
+      not-false
+          (c .before .before .before .before .before .before .before .before .before .before .before .before .args .l
+          .on)
+          (c .before .before .before .before .before .before .before .before .before .before .if1 .left),
+    )
 
 returns-6 : tie.Need-returns-6
 unfolding placeOf
 returns-6 c =
-    search (tests, not-false (c .before .before .before .before .before .before .before .before .before .before .before .before .args .l .on) (c .before .before .before .before .before .before .before .before .before .before .if1 .left))
+    search (
+      tests,
+      not-false
+          (c .before .before .before .before .before .before .before .before .before .before .before .before .args .l
+          .on)
+          (c .before .before .before .before .before .before .before .before .before .before .if1 .left),
+    )
 
 pub place-of-spec : {M : Type 1} → statement M
 place-of-spec =

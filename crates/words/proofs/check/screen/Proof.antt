@@ -18,11 +18,13 @@ screen-height-requires c κs = search needs
 
 returns-2 : tie.Need-returns-2
 unfolding screenOf
-returns-2 c = search (tests, ← (c .before .screen-height .ensures), ← (c .before .before .before .screen-width .ensures))
+returns-2 c =
+    search (tests, ← (c .before .screen-height .ensures), ← (c .before .before .before .screen-width .ensures))
 
 returns-3 : tie.Need-returns-3
 unfolding screenOf
-returns-3 c = search (tests, ← (c .before .screen-height .ensures), ← (c .before .before .before .screen-width .ensures))
+returns-3 c =
+    search (tests, ← (c .before .screen-height .ensures), ← (c .before .before .before .screen-width .ensures))
 
 pub screen-spec : {M : Type 1} → statement M
 screen-spec =

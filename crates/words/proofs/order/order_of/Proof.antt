@@ -4,7 +4,8 @@ use borrow.Author.Needs.{needs}
 use mathlib.Core.Path.{_≡_}
 use Prim.Native.Nat.{_≤_, _-_}
 use native.Mathlib.Omega.{arith}
-use Rattle.words.specs.Order.{layersBelow, packed}
+use Rattle.words.specs.Order.{layersBelow}
+use Rattle.words.specs.Engine.Packed.{packed}
 use Rattle.words.proofs.OrderLaws.{order-none, order-all}
 use Rattle.words.proofs.order.order_of.Statement.{statement}
 use Rattle.words.proofs.order.order_of.Tie as tie

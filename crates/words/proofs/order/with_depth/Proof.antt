@@ -4,7 +4,7 @@ use borrow.Author.Needs.{needs}
 use mathlib.Core.Path.{_≡_, ap, _∙_}
 use Prim.Native.Nat.{_≤_, _-_}
 use native.Mathlib.Omega.{arith}
-use Rattle.words.specs.Order.{found as foundTo, packed}
+use Rattle.words.specs.Engine.Packed.{found as foundTo, packed}
 use Rattle.words.proofs.OrderLaws.{found-none, order-depth}
 use Rattle.words.proofs.order.with_depth.Statement.{statement}
 use Rattle.words.proofs.order.with_depth.Tie as tie

@@ -20,10 +20,14 @@ is-here-requires : tie.Need-is-here-requires
 is-here-requires c κs = search needs
 
 -- what `is_here` answers is whether the layer is here
-asked : (c : tie.After-is-here) → c .is-here .result ≡ here (layerOf (now (c .before .before .args .w)) (c .before .before .args .n)) (c .before .before .args .d)
+asked : (c : tie.After-is-here)
+    → c .is-here .result
+    ≡ here (layerOf (now (c .before .before .args .w)) (c .before .before .args .n)) (c .before .before .args .d)
 asked c = c .is-here .ensures ∙ ap (λ (l : Layer). here l (c .before .before .args .d)) (c .before .layer-of .ensures)
 
-seen : (c : tie.Then1) → here (layerOf (now (c .before .before .before .args .w)) (c .before .before .before .args .n)) (c .before .before .before .args .d) ≡ true
+seen : (c : tie.Then1)
+    → here (layerOf (now (c .before .before .before .args .w)) (c .before .before .before .args .n))
+    (c .before .before .before .args .d) ≡ true
 seen c = sym (asked (c .before)) ∙ c .if1 .taken
 
 room : (c : tie.Then1) → c .before .before .before .args .t1 .count < 8
@@ -42,7 +46,8 @@ returns : tie.Need-returns
 returns c = order-taken _ _ _ _ (omega arith) (c .before .before .before .pre .2) (seen c)
 
 returns-2 : tie.Need-returns-2
-returns-2 c = order-left _ _ _ _ (omega arith) (c .before .before .before .pre .2) (sym (asked (c .before)) ∙ c .if1 .left)
+returns-2 c =
+    order-left _ _ _ _ (omega arith) (c .before .before .before .pre .2) (sym (asked (c .before)) ∙ c .if1 .left)
 
 pub with-layer-spec : {M : Type 1} → statement M
 with-layer-spec =

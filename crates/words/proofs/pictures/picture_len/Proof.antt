@@ -24,7 +24,9 @@ cast-result c = search needs
 cast-result-2 : tie.Need-cast-result-2
 cast-result-2 c = search needs
 
-bound : (c : tie.After-struct-known3) → c .before .before .before .before .before .args .l .width * c .before .before .before .before .before .args .l .height ≤ 65535 * 65535
+bound : (c : tie.After-struct-known3)
+    → c .before .before .before .before .before .args .l .width
+    * c .before .before .before .before .before .args .l .height ≤ 65535 * 65535
 bound c = mul-le-mul {n₂ = 65535} {m₂ = 65535} (omega arith) (omega arith)
 
 mul-result : tie.Need-mul-result
@@ -36,7 +38,11 @@ mul-result-2 c = omega (arith, bound c)
 returns-3 : tie.Need-returns-3
 unfolding pictureLen
 returns-3 c =
-    rw (not-false (c .before .before .before .before .before .args .l .on) (c .before .before .before .if1 .left), c .before .before .if2 .left)
+    rw (
+      not-false (c .before .before .before .before .before .args .l .on)
+          (c .before .before .before .if1 .left),
+      c .before .before .if2 .left,
+    )
 
 pub picture-len-spec : {M : Type 1} → statement M
 picture-len-spec =

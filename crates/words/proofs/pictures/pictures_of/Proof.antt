@@ -27,7 +27,12 @@ array-write-starts c = search needs
 
 add-total : tie.Need-add-total Inv-loop μ-loop
 add-total c =
-    omega (arith, c .before .before .loop .inv .1 .sum, pictureStart-le (c .before .before .before .args .w .now) (c .before .before .loop .n) (omega arith))
+    omega (
+      arith,
+      c .before .before .loop .inv .1 .sum,
+      pictureStart-le (c .before .before .before .args .w .now)
+          (c .before .before .loop .n) (omega arith),
+    )
 
 add-n : tie.Need-add-n Inv-loop μ-loop
 add-n c = search needs
@@ -36,8 +41,11 @@ loop-less : tie.Need-loop-less Inv-loop μ-loop
 loop-less c = search needs
 
 loop-again : tie.Need-loop-again Inv-loop μ-loop
-loop-again c =
-    (search needs, starts-next _ _ _ _ _ (omega arith) (c .before .before .loop .inv .1) (c .picture-len-at .ensures .0))
+loop-again c = (
+  search needs,
+  starts-next _ _ _ _ _ (omega arith) (c .before .before .loop .inv .1)
+      (c .picture-len-at .ensures .0),
+)
 
 returns : tie.Need-returns Inv-loop μ-loop
 returns c = starts-all _ _ _ _ (omega arith) (omega arith) (c .before .loop .inv .1)

@@ -1,0 +1,4 @@
+-- The laws of frames. Assumes nothing.
+pub mod PixelLaws
+pub mod BandLaws
+pub mod CallerLaws

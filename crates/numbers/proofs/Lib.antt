@@ -1,0 +1,2 @@
+-- The laws of the functions of `src/`. Assumes nothing.
+pub mod Unique

@@ -1,0 +1,100 @@
+// What painting refuses, in document 01's order, by the words and the buffers' lengths.
+ghost use mathlib.Core.Path.{_≡_};
+ghost use Rattle.frames.specs.Frame.{bandRefusal, sizeRefusal, outputRefusal, tablesRefusal, picturesRefusal};
+ghost use Rattle.frames.specs.Frame.{fillRefusal, paintRefusal};
+use answers::DONE;
+use answers::NO_BAND;
+use answers::NO_SIZE;
+use answers::OUTPUT_LENGTH;
+use answers::PICTURES_LENGTH;
+use answers::TABLES_LENGTH;
+use answers::or_else;
+use mix::PIXEL_LEN;
+use tables::TABLES_LEN;
+use words::fields::screen_height;
+use words::fields::screen_width;
+use words::pictures::pictures_of;
+
+// The depths that layers can have: a band's upper end is at most this.
+pub const DEPTHS: u32 = 8;
+
+// 15, of a band's lower and upper end.
+fn band_refusal(low: u32, high: u32) -> u8
+    ensures { λ r. ⌜ r ≡ bandRefusal low high ⌝ }
+{
+    if high < low {
+        return NO_BAND;
+    }
+    if DEPTHS < high {
+        return NO_BAND;
+    }
+    DONE
+}
+
+// 12.
+fn size_refusal(w: &[u32; 52]) -> u8
+    ensures { λ r. ⌜ r ≡ sizeRefusal (now (w .entry)) ⌝ }
+{
+    if screen_width(w) == 0 {
+        return NO_SIZE;
+    }
+    if screen_height(w) == 0 {
+        return NO_SIZE;
+    }
+    DONE
+}
+
+// 13, of an output so long.
+fn output_refusal(w: &[u32; 52], out: usize) -> u8
+    ensures { λ r. ⌜ r ≡ outputRefusal (now (w .entry)) out ⌝ }
+{
+    let width = screen_width(w) as usize;
+    let height = screen_height(w) as usize;
+    if out == PIXEL_LEN * (width * height) {
+        return DONE;
+    }
+    OUTPUT_LENGTH
+}
+
+// 6, of tables so long.
+fn tables_refusal(tables: usize) -> u8
+    ensures { λ r. ⌜ r ≡ tablesRefusal tables ⌝ }
+{
+    if tables == TABLES_LEN {
+        return DONE;
+    }
+    TABLES_LENGTH
+}
+
+// 14, of pictures so long.
+fn pictures_refusal(w: &[u32; 52], pictures: usize) -> u8
+    ensures { λ r. ⌜ r ≡ picturesRefusal (now (w .entry)) pictures ⌝ }
+{
+    if pictures == pictures_of(w).total {
+        return DONE;
+    }
+    PICTURES_LENGTH
+}
+
+// What a fill answers for an output so long: 0, or the first of 12, 13.
+pub fn fill_refusal(w: &[u32; 52], out: usize) -> u8
+    ensures { λ r. ⌜ r ≡ fillRefusal (now (w .entry)) out ⌝ }
+{
+    or_else(size_refusal(w), output_refusal(w, out))
+}
+
+// What a band answers for buffers so long: 0, or the first of 15, 12, 13, 6, 14.
+pub fn paint_refusal(
+    w: &[u32; 52],
+    low: u32,
+    high: u32,
+    out: usize,
+    tables: usize,
+    pictures: usize,
+) -> u8
+    ensures { λ r. ⌜ r ≡ paintRefusal (now (w .entry)) low high out tables pictures ⌝ }
+{
+    let lent = or_else(tables_refusal(tables), pictures_refusal(w, pictures));
+    let sized = or_else(size_refusal(w), or_else(output_refusal(w, out), lent));
+    or_else(band_refusal(low, high), sized)
+}

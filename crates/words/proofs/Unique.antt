@@ -1,0 +1,44 @@
+-- No two outcomes meet a function's promise. `Post` is the function's own `ensures`, as the check reads it
+-- in `src/`: of the arguments i, the answer a or b, and the arguments at exit, e or f. Assumes nothing.
+use mathlib.Core.Path.{_≡_}
+use Rattle.lists.proofs.Choice.{meet}
+use Rattle.words.proofs.fields.is_shown.Reads as is_shown
+use Rattle.words.proofs.fields.is_update.Reads as is_update
+use Rattle.words.proofs.fields.screen_width.Reads as screen_width
+use Rattle.words.proofs.fields.screen_height.Reads as screen_height
+use Rattle.words.proofs.fields.ground_of.Reads as ground_of
+use Rattle.words.proofs.fields.active_bank.Reads as active_bank
+use Rattle.words.proofs.fields.layer_of.Reads as layer_of
+use Rattle.words.proofs.check.refusal_of.Reads as refusal_of
+use Rattle.words.proofs.order.order_of.Reads as order_of
+use Rattle.words.proofs.pictures.pictures_of.Reads as pictures_of
+
+pub is-shown-unique : (κs i a b e f : _) → is_shown.Post κs i a e → is_shown.Post κs i b f → a ≡ b
+is-shown-unique κs i a b e f p q = meet p q
+
+pub is-update-unique : (κs i a b e f : _) → is_update.Post κs i a e → is_update.Post κs i b f → a ≡ b
+is-update-unique κs i a b e f p q = meet p q
+
+pub screen-width-unique : (κs i a b e f : _) → screen_width.Post κs i a e → screen_width.Post κs i b f → a ≡ b
+screen-width-unique κs i a b e f p q = meet p q
+
+pub screen-height-unique : (κs i a b e f : _) → screen_height.Post κs i a e → screen_height.Post κs i b f → a ≡ b
+screen-height-unique κs i a b e f p q = meet p q
+
+pub ground-of-unique : (κs i a b e f : _) → ground_of.Post κs i a e → ground_of.Post κs i b f → a ≡ b
+ground-of-unique κs i a b e f p q = meet p q
+
+pub active-bank-unique : (κs i a b e f : _) → active_bank.Post κs i a e → active_bank.Post κs i b f → a ≡ b
+active-bank-unique κs i a b e f p q = meet p q
+
+pub layer-of-unique : (κs i a b e f : _) → layer_of.Post κs i a e → layer_of.Post κs i b f → a ≡ b
+layer-of-unique κs i a b e f p q = meet p q
+
+pub refusal-of-unique : (κs i a b e f : _) → refusal_of.Post κs i a e → refusal_of.Post κs i b f → a ≡ b
+refusal-of-unique κs i a b e f p q = meet p q
+
+pub order-of-unique : (κs i a b e f : _) → order_of.Post κs i a e → order_of.Post κs i b f → a ≡ b
+order-of-unique κs i a b e f p q = meet p q
+
+pub pictures-of-unique : (κs i a b e f : _) → pictures_of.Post κs i a e → pictures_of.Post κs i b f → a ≡ b
+pictures-of-unique κs i a b e f p q = meet p q

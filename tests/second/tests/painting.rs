@@ -1,0 +1,382 @@
+//! The laws of painting on the built programs: the host entry paints the inputs that a law speaks
+//! of, and the figures program does the calls that are to be one. Nothing is compared with what
+//! this display paints; it only says where a law applies. A case that fails is told with its seed.
+//!
+//!   SPOONWING_HOST      the C host, ../../tools/c-host unless set
+//!   SPOONWING_FIGURES   what runs the figures program, ../../tools/run unless set
+//!   SPOONWING_SEED      tries the cases of this one seed only
+
+use second::beside::{figures, lines, seed, Host};
+use second::cases::{gen_exchange, gen_invisible, gen_opaque, gen_split, Inputs, Pair};
+use second::paint::{band, blend, fill};
+use second::script::*;
+use std::collections::{BTreeMap, BTreeSet};
+use std::ops::RangeInclusive;
+
+const CASES: u64 = 1_500;
+const SPLITS: u64 = 150;
+
+/// What paints a frame.
+type Painter<'a> = &'a mut dyn FnMut(&Inputs) -> Result<Vec<u8>, String>;
+
+/// A law holds for the case of a seed, which is counted by these names and numbers, or it is told
+/// where it fails.
+type Tried = Result<Vec<(String, usize)>, String>;
+
+fn all_seeds(cases: u64) -> RangeInclusive<u64> {
+    seed().map_or(0..=cases - 1, |seed| seed..=seed)
+}
+
+/// Tries the cases of all seeds and asks that each name has come as often as it says.
+fn try_all(cases: u64, least: &[(&str, usize)], mut law: impl FnMut(u64) -> Tried) {
+    let mut counts: BTreeMap<String, usize> = BTreeMap::new();
+    for seed in all_seeds(cases) {
+        let names = law(seed).unwrap_or_else(|told| panic!("seed {seed}: {told}"));
+        names.into_iter().for_each(|(name, count)| *counts.entry(name).or_default() += count);
+    }
+    println!("{counts:#?}");
+    if seed().is_none() {
+        for &(name, least) in least {
+            let came = counts.get(name).copied().unwrap_or(0);
+            assert!(came >= least, "{name} came {came} times of {least}");
+        }
+        assert_eq!(counts.len(), least.len(), "a name is not asked for");
+    }
+}
+
+/// Whether two frames are alike in the channels of those pixels.
+fn alike(one: &[u8], other: &[u8], pixels: impl IntoIterator<Item = usize>) -> Result<(), String> {
+    assert_eq!(one.len(), other.len(), "one screen");
+    let bytes = pixels.into_iter().flat_map(|at| at..at + 3);
+    match bytes.into_iter().find(|&at| one[at] != other[at]) {
+        Some(at) => Err(format!("byte {at} is {} and then {}", one[at], other[at])),
+        None => Ok(()),
+    }
+}
+
+fn counted(pair: &Pair, more: &[(&str, usize)]) -> Vec<(String, usize)> {
+    let kinds = pair.kinds.iter().map(|kind| (kind.clone(), 1));
+    kinds.chain(more.iter().map(|&(name, count)| (name.to_string(), count))).collect()
+}
+
+fn places(inputs: &Inputs, n: usize) -> BTreeSet<usize> {
+    inputs.shown(n).into_iter().map(|pixel| pixel.at).collect()
+}
+
+/// "two layers next to each other in depth that share no pixel may exchange depths"
+fn exchange(painted: Painter, seed: u64) -> Tried {
+    let pair = gen_exchange(seed);
+    let (before, after) = (pair.one.words.order(), pair.other.words.order());
+    let i = before.iter().position(|&n| n == pair.layer).expect("it is a layer");
+    let mut swapped = before.clone();
+    swapped.swap(i, i + 1);
+    assert_eq!(after, swapped, "seed {seed}: neighbours are exchanged");
+    let [lower, upper] = [before[i], before[i + 1]].map(|n| places(&pair.one, n));
+    assert!(lower.is_disjoint(&upper), "seed {seed}: no pixel is shared");
+    let (one, other) = (painted(&pair.one)?, painted(&pair.other)?);
+    alike(&one, &other, (0..one.len()).step_by(4))?;
+    Ok(counted(&pair, &[]))
+}
+
+/// What the layers under a depth leave.
+fn under(inputs: &Inputs, depth: u32) -> Vec<u8> {
+    let Inputs { words, frame, tables, pictures } = inputs;
+    let mut out = vec![0; words.output_len() as usize];
+    fill(words, &mut out);
+    band(words, *frame, 0, depth, tables, &pictures.concat(), &mut out);
+    out
+}
+
+/// "where a layer's alpha comes to 255, neither the background nor the pixels and alphas of layers
+/// under it count"
+fn opaque(painted: Painter, seed: u64) -> Tried {
+    let pair = gen_opaque(seed);
+    let depth = pair.one.words.layer(pair.layer).depth;
+    let from = |inputs: &Inputs| {
+        let layers = inputs.words.order().into_iter();
+        let from = layers.filter(|&n| inputs.words.layer(n).depth >= depth);
+        from.map(|n| inputs.shown(n)).collect::<Vec<_>>()
+    };
+    assert!(from(&pair.one) == from(&pair.other), "seed {seed}: it and those over it are the same");
+    let full = pair.one.shown(pair.layer).into_iter().filter(|pixel| pixel.alpha == 255);
+    let full: Vec<usize> = full.map(|pixel| pixel.at).collect();
+    let (one, other) = (painted(&pair.one)?, painted(&pair.other)?);
+    alike(&one, &other, full.iter().copied())?;
+    let unders = [under(&pair.one, depth), under(&pair.other, depth)];
+    let differ = full.iter().filter(|&&at| unders[0][at..at + 3] != unders[1][at..at + 3]);
+    Ok(counted(&pair, &[("opaque pixels", full.len()), ("over other bytes", differ.count())]))
+}
+
+/// "a layer whose alpha is 0 all over may be switched off, its picture withdrawn with it"
+fn invisible(painted: Painter, seed: u64) -> Tried {
+    let pair = gen_invisible(seed);
+    let shown = pair.one.shown(pair.layer);
+    assert!(shown.iter().all(|pixel| pixel.alpha == 0), "seed {seed}: it is clear all over");
+    assert!(!pair.other.words.order().contains(&pair.layer), "seed {seed}: it is off");
+    let (one, other) = (painted(&pair.one)?, painted(&pair.other)?);
+    alike(&one, &other, (0..one.len()).step_by(4))?;
+    let hidden = shown.iter().filter(|pixel| pixel.channels != one[pixel.at..pixel.at + 3]);
+    Ok(counted(&pair, &[("pixels that would be seen", hidden.count())]))
+}
+
+/// "each channel lies between the least and greatest of the background's and the covering layers'
+/// there"
+fn between(painted: Painter, seed: u64) -> Tried {
+    let inputs = Inputs::gen(seed, 1);
+    let frame = painted(&inputs)?;
+    let ground = inputs.words.background();
+    let mut least: Vec<u8> = [ground[0], ground[1], ground[2], 255].repeat(frame.len() / 4);
+    let mut greatest = least.clone();
+    let mut covers = vec![0; frame.len()];
+    for pixel in inputs.words.order().into_iter().flat_map(|n| inputs.shown(n)) {
+        for (at, channel) in (pixel.at..).zip(pixel.channels) {
+            least[at] = least[at].min(channel);
+            greatest[at] = greatest[at].max(channel);
+            covers[at] += 1;
+        }
+    }
+    for at in 0..frame.len() {
+        if !(least[at]..=greatest[at]).contains(&frame[at]) {
+            return Err(format!(
+                "byte {at}: {} is not in {}..{}",
+                frame[at], least[at], greatest[at]
+            ));
+        }
+    }
+    let bytes = |test: &dyn Fn(usize) -> bool| {
+        (0..frame.len()).filter(|&at| at % 4 < 3 && test(at)).count()
+    };
+    Ok(vec![
+        ("channels under two layers or more".into(), bytes(&|at| covers[at] >= 2)),
+        ("channels that can be one number".into(), bytes(&|at| least[at] == greatest[at])),
+        (
+            "channels at the least".into(),
+            bytes(&|at| frame[at] == least[at] && least[at] < greatest[at]),
+        ),
+        (
+            "channels at the greatest".into(),
+            bytes(&|at| frame[at] == greatest[at] && least[at] < greatest[at]),
+        ),
+        ("channels amid".into(), bytes(&|at| least[at] < frame[at] && frame[at] < greatest[at])),
+    ])
+}
+
+/// "fill, then the layers below any depth, then the rest, is one painting, frame and state": the
+/// records of both ways, each from a fresh display on. What the state holds shows in the calls that
+/// follow.
+struct Split {
+    depth: u32,
+    /// Before the painting.
+    stage: Stage,
+    whole: Vec<Call>,
+    parts: Vec<Call>,
+    /// From the painting's last record on the two ways print the same, but for the first letter.
+    same: usize,
+}
+
+const fn record(letter: u8, a: u32, b: u32) -> Call {
+    Call { letter, a, b }
+}
+
+fn split_of(seed: u64) -> Split {
+    let (calls, depth) = gen_split(seed);
+    let mut stage = Stage::new();
+    for &call in &calls {
+        stage.play(call);
+    }
+    let seen = views(&stage);
+    let after = [record(PUT, 0x5A, 0), record(START, 0, 0), record(FRAME, 0, 0)];
+    let way = |painting: &[Call]| {
+        [&[record(NEW, 0, 0)], &calls[..], painting, &seen, &after, &seen].concat()
+    };
+    Split {
+        depth,
+        stage,
+        whole: way(&[record(FRAME, 0, 0)]),
+        parts: way(&[record(FILL, 0, 0), record(BAND, 0, depth), record(BAND, depth, 8)]),
+        same: 1 + 2 * seen.len() + after.len(),
+    }
+}
+
+/// All seeds' splits in one script: what is found of each.
+fn splits(printed: &dyn Fn(&[u8]) -> Vec<u8>, seeds: RangeInclusive<u64>) -> Vec<Tried> {
+    let splits: Vec<Split> = seeds.map(split_of).collect();
+    let ways = splits.iter().flat_map(|split| [&split.whole, &split.parts]);
+    let script: Vec<Call> = ways.flatten().copied().collect();
+    let printed = lines(&printed(&script_text(&script)));
+    // The bench figures come first, then a line a record.
+    let figures = lines(&print_script(b"")).len();
+    let mut rest = &printed[figures.min(printed.len())..];
+    let mut next = |count: usize| {
+        let (first, later) = rest.split_at(count.min(rest.len()));
+        rest = later;
+        first
+    };
+    let tried = |split: &Split| {
+        let [whole, parts] = [&split.whole, &split.parts].map(|way| {
+            let lines = next(way.len());
+            &lines[lines.len().saturating_sub(split.same)..]
+        });
+        split_holds(split, whole, parts)
+    };
+    splits.iter().map(tried).collect()
+}
+
+fn split_holds(split: &Split, whole: &[Vec<u8>], parts: &[Vec<u8>]) -> Tried {
+    if !whole.first().is_some_and(|line| line.starts_with(b"R 00 ")) || whole.len() != split.same {
+        return Err("the frame is not painted".into());
+    }
+    let told = |lines: &[Vec<u8>], i: usize| {
+        let line = lines.get(i).map_or(&b"nothing"[..], |line| &line[usize::from(i == 0)..]);
+        line.escape_ascii().to_string()
+    };
+    if let Some(i) = (0..split.same).find(|&i| told(whole, i) != told(parts, i)) {
+        let (depth, whole, parts) = (split.depth, told(whole, i), told(parts, i));
+        return Err(format!("split at {depth}, a frame leaves\n{whole}\nand its parts\n{parts}"));
+    }
+    let mut names = Vec::new();
+    let active = split.stage.display.active();
+    for (side, low, high) in [("under", 0, split.depth), ("over", split.depth, 8)] {
+        let mut after = split.stage.clone();
+        after.play(record(BAND, low, high));
+        let layers = active.order();
+        let is_there = layers.iter().any(|&n| (low..high).contains(&active.layer(n).depth));
+        let marks = after.display.errors() != split.stage.display.errors();
+        names.extend(is_there.then(|| (format!("layers {side}"), 1)));
+        names.extend(marks.then(|| (format!("END missed {side}"), 1)));
+        names.extend((after.out != split.stage.out).then(|| (format!("bytes changed {side}"), 1)));
+    }
+    Ok(names)
+}
+
+#[test]
+fn neighbours_that_share_no_pixel_exchange_depths() {
+    let mut host = Host::start();
+    let least = [
+        ("depths in a row", 600),
+        ("a gap between the depths", 300),
+        ("numbers as depths", 500),
+        ("numbers against depths", 500),
+        ("touching", 500),
+        ("apart", 300),
+        ("side by side", 500),
+        ("one above the other", 500),
+        ("list under list", 200),
+        ("list under picture", 200),
+        ("picture under list", 200),
+        ("picture under picture", 200),
+        ("something under both", 300),
+        ("nothing under them", 300),
+        ("something over both", 300),
+        ("nothing over them", 300),
+    ];
+    try_all(CASES, &least, |seed| exchange(&mut |inputs| host.painted(&inputs.call()), seed));
+}
+
+#[test]
+fn nothing_counts_under_an_opaque_pixel() {
+    let mut host = Host::start();
+    let least = [
+        ("by its bytes", 100),
+        ("by some of its bytes", 100),
+        ("by its colour table", 100),
+        ("by the colours drawn", 100),
+        ("by global alpha", 100),
+        ("by a fade not begun", 100),
+        ("by a fade on its way", 100),
+        ("by a fade at its end", 100),
+        ("by a fade past its end", 100),
+        ("over layers", 700),
+        ("over the background alone", 150),
+        ("opaque pixels", 20_000),
+        ("over other bytes", 20_000),
+    ];
+    try_all(CASES, &least, |seed| opaque(&mut |inputs| host.painted(&inputs.call()), seed));
+}
+
+#[test]
+fn a_clear_layer_may_be_switched_off() {
+    let mut host = Host::start();
+    let least = [
+        ("by its bytes", 100),
+        ("by its colour table", 100),
+        ("by the colours drawn", 100),
+        ("by global alpha", 100),
+        ("by a fade not begun", 100),
+        ("by a fade on its way", 100),
+        ("by a fade at its end", 100),
+        ("by a fade past its end", 100),
+        ("pictures move up", 150),
+        ("no picture after its own", 150),
+        ("no picture of its own", 400),
+        ("pixels that would be seen", 20_000),
+    ];
+    try_all(CASES, &least, |seed| invisible(&mut |inputs| host.painted(&inputs.call()), seed));
+}
+
+#[test]
+fn channels_lie_between_what_covers_them() {
+    let mut host = Host::start();
+    let least = [
+        ("channels under two layers or more", 100_000),
+        ("channels that can be one number", 50_000),
+        ("channels at the least", 20_000),
+        ("channels at the greatest", 20_000),
+        ("channels amid", 100_000),
+    ];
+    try_all(CASES, &least, |seed| between(&mut |inputs| host.painted(&inputs.call()), seed));
+}
+
+#[test]
+fn a_split_painting_is_one() {
+    let least = [
+        ("layers under", 100),
+        ("layers over", 100),
+        ("END missed under", 15),
+        ("END missed over", 15),
+        ("bytes changed under", 100),
+        ("bytes changed over", 100),
+    ];
+    let mut tried = splits(&figures, all_seeds(SPLITS)).into_iter();
+    try_all(SPLITS, &least, |_| tried.next().expect("one for each seed"));
+}
+
+/// Every layer over the others by another rule for a channel; each pixel so many pixels wide.
+fn wrong(inputs: &Inputs, rule: fn(u32, u32, u32) -> u32, wide: usize) -> Vec<u8> {
+    let mut out = under(inputs, 0);
+    for pixel in inputs.words.order().into_iter().flat_map(|n| inputs.shown(n)) {
+        for at in (pixel.at..out.len()).step_by(4).take(wide) {
+            for channel in 0..3 {
+                let (over, under) = (pixel.channels[channel], out[at + channel]);
+                out[at + channel] = rule(pixel.alpha, over.into(), under.into()) as u8;
+            }
+        }
+    }
+    out
+}
+
+/// The laws themselves, on displays that are known to be wrong: layers that run over their right
+/// edge, blends that divide by 256, and bands that set no error bits.
+#[test]
+fn impostors_are_caught() {
+    let run_over = &mut |inputs: &Inputs| Ok(wrong(inputs, blend, 2));
+    let dim = &mut |inputs: &Inputs| {
+        Ok(wrong(inputs, |a, over, under| (a * over + (255 - a) * under + 127) / 256, 1))
+    };
+    let thin = &mut |inputs: &Inputs| {
+        Ok(wrong(inputs, |a, over, under| (a * over + (256 - a) * under + 128) / 256, 1))
+    };
+    assert!((0..50).any(|seed| exchange(run_over, seed).is_err()));
+    assert!((0..50).any(|seed| opaque(thin, seed).is_err()));
+    assert!((0..50).any(|seed| invisible(dim, seed).is_err()));
+    assert!((0..50).any(|seed| between(dim, seed).is_err()));
+    let silent = |script: &[u8]| {
+        let printed = String::from_utf8(print_script(script)).expect("letters and digits");
+        let line = |line: &str| match line.strip_prefix("B 00 ") {
+            Some(rest) => format!("B 00 00000000{}\n", &rest[8..]),
+            None => format!("{line}\n"),
+        };
+        printed.lines().map(line).collect::<String>().into_bytes()
+    };
+    assert!(splits(&silent, 0..=49).iter().any(Result::is_err));
+}
