@@ -15,9 +15,11 @@ sceneWith d tables pictures = sceneOf (d .active) (d .frame) tables pictures
 
 -- ---- fill: "Fill writes the background to every pixel."
 
+-- the answer; nothing of the state changes
 unfoldable pub fillTold : Display → List ℕ → Told
 fillTold d out = told d (fillRefusal (d .active) (length out))
 
+-- the output that it leaves
 unfoldable pub fillBytes : Display → List ℕ → List ℕ
 fillBytes d out = fillAfter (d .active) out
 
@@ -29,13 +31,16 @@ paintTold d a b tables pictures out =
     told (withErrors d (errorsAfter (sceneWith d tables pictures) a b out (d .errors)))
     (refusalOf (sceneWith d tables pictures) a b out)
 
+-- the output that it leaves
 unfoldable pub paintBytes : Display → ℕ → ℕ → List ℕ → List ℕ → List ℕ → List ℕ
 paintBytes d a b tables pictures out = paintAfter (sceneWith d tables pictures) a b out
 
 -- ---- "A whole frame is a fill and band 0..8, refused as paint."
 
+-- the answer and the error word are those of the band
 unfoldable pub frameTold : Display → List ℕ → List ℕ → List ℕ → Told
 frameTold d tables pictures out = paintTold d 0 8 tables pictures out
 
+-- the output that it leaves, whatever it held
 unfoldable pub frameBytes : Display → List ℕ → List ℕ → List ℕ → List ℕ
 frameBytes d tables pictures out = frameAfter (sceneWith d tables pictures) out

@@ -1,5 +1,4 @@
--- What put answers and leaves, in the state and in the tables: 01 "Tables", "Answers by number".
--- Assumes nothing.
+-- What put answers and leaves, in the state and in the tables: 01 "Tables", "Answers by number". Assumes nothing.
 use Prim.Native.Nat.{ℕ, _+_, _*_, _^_}
 use mathlib.Core.List.{List}
 use lib.ListN.{length, set}
@@ -30,9 +29,11 @@ putState d answer =
     (choose (eqb answer bankFull)
     (withErrors d (bitOr (d .errors) (2 ^ (4 * controllerOf (d .selection .number) + 1)))) d)
 
+-- what put answers, and the state that it leaves
 unfoldable pub putOf : Display → List ℕ → Told
 putOf d tables = told (putState d (putAnswer d tables)) (putAnswer d tables)
 
+-- the tables that it leaves: the byte at the place, counted from the selected table's first byte
 unfoldable pub putTables : Display → List ℕ → ℕ → List ℕ
 putTables d tables byte =
     choose (eqb (putAnswer d tables) done)

@@ -30,26 +30,31 @@ selectionOf made number place = record { made = made; number = number; place = p
 abbrev pub fresh : Display
 fresh = display (replicate 52 0) (replicate 52 0) 0 0 (selectionOf false 0 0)
 
--- the state with other pending words, and so on; all else as it was
+-- the state with other pending words, all else as it was
 abbrev pub withPending : Display → List ℕ → Display
 withPending d pending = display pending (d .active) (d .frame) (d .errors) (d .selection)
 
+-- with other active words
 abbrev pub withActive : Display → List ℕ → Display
 withActive d active = display (d .pending) active (d .frame) (d .errors) (d .selection)
 
+-- at another frame number
 abbrev pub withFrame : Display → ℕ → Display
 withFrame d frame = display (d .pending) (d .active) frame (d .errors) (d .selection)
 
+-- with another error word
 abbrev pub withErrors : Display → ℕ → Display
 withErrors d errors = display (d .pending) (d .active) (d .frame) errors (d .selection)
 
+-- with another selection and its place
 abbrev pub withSelection : Display → Selection → Display
 withSelection d selection = display (d .pending) (d .active) (d .frame) (d .errors) selection
 
--- a new selection begins at place 0; a put moves the place alone
+-- with a new selection, at place 0
 abbrev pub freshSelection : Display → ℕ → Display
 freshSelection d number = withSelection d (selectionOf true number 0)
 
+-- with the place alone moved
 abbrev pub withPlace : Display → ℕ → Display
 withPlace d place = withSelection d (selectionOf (d .selection .made) (d .selection .number) place)
 
@@ -57,7 +62,7 @@ withPlace d place = withSelection d (selectionOf (d .selection .made) (d .select
 abbrev pub told : Display → ℕ → Told
 told d answer = record { state = d; answer = answer }
 
--- at a frame number
+-- a state at a frame number, and an answer
 abbrev pub toldAt : Display → ℕ → ℕ → Told
 toldAt d frame answer = told (withFrame d frame) answer
 
@@ -68,8 +73,7 @@ abbrev pub writeOf : Display → ℕ → ℕ → Told
 writeOf d register value =
     choose (ltb register 52) (told (withPending d (set (d .pending) register value)) done) (told d noRegister)
 
--- "Selecting sets the place to 0, also when it selects the same bank again."; 2, "above 63": "all
--- unchanged"
+-- "Selecting sets the place to 0, also when it selects the same bank again."; 2, "above 63": "all unchanged"
 abbrev pub selectOf : Display → ℕ → Told
 selectOf d selection = choose (ltb selection 64) (told (freshSelection d selection) done) (told d noSelection)
 

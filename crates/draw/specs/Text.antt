@@ -52,8 +52,7 @@ inked pixel colour old = pick (eqb pixel 0) old colour
 unfoldable pub rowAfter : (ℕ → ℕ) → ℕ → ℕ → ℕ → ℕ → ℕ → ℕ → ℕ
 rowAfter p n z x colour u old = pick (both (leb x u) (ltb ((u - x) / z) n)) (inked (p ((u - x) / z)) colour old) old
 
--- the cells stand side by side: a string's pixel j in a row of glyphs is of character j / 8, and of its
--- column j % 8
+-- the cells stand side by side: a string's pixel j in a row of glyphs is of character j / 8, and of its column j % 8
 unfoldable pub stringPixel : List ℕ → List ℕ → ℕ → ℕ → ℕ → ℕ
 stringPixel strings font n row j =
     pixelOf (glyphRow font (character strings n (j / glyphColumns)) row) (j % glyphColumns)

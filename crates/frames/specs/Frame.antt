@@ -1,5 +1,4 @@
--- What fill, a band and a whole frame answer and leave: 01 "Painting", "Answers by number".
--- Assumes nothing.
+-- What fill, a band and a whole frame answer and leave: 01 "Painting", "Answers by number". Assumes nothing.
 use Prim.Native.Nat.{ℕ, _*_, _%_}
 use mathlib.Core.List.{List}
 use lib.ListN.{length}

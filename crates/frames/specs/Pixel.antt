@@ -63,10 +63,11 @@ spans from size p = both (leb from p) (ltb p (from + size))
 unfoldable pub covers : Layer → ℕ → ℕ → Bool
 covers l y x = both (spans (l .x) (l .width) x) (spans (l .y) (l .height) y)
 
--- the layer's own column and row there
+-- the layer's own column there
 abbrev pub acrossOf : Layer → ℕ → ℕ
 acrossOf l x = x - l .x
 
+-- and its row
 abbrev pub downOf : Layer → ℕ → ℕ
 downOf l y = y - l .y
 

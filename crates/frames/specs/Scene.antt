@@ -9,5 +9,6 @@ pub record Scene : Type 0 where
   pub tables : List ℕ
   pub pictures : List ℕ
 
+-- a scene by its parts
 abbrev pub sceneOf : List ℕ → ℕ → List ℕ → List ℕ → Scene
 sceneOf words frame tables pictures = record { words = words; frame = frame; tables = tables; pictures = pictures }

@@ -16,6 +16,7 @@ use Rattle.frames.specs.Frame.{refusalOf, frameOf}
 abbrev pub imageWord : List ℕ → ℕ → ℕ
 imageWord image i = littleAt image (4 * i)
 
+-- the words of an image, all 52
 unfoldable pub wordsOf : List ℕ → List ℕ
 wordsOf image = tab 52 (imageWord image)
 

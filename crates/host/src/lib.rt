@@ -5,7 +5,7 @@ ghost use Rattle.host.specs.Host.{wordsOf, hostAnswer, hostOutput};
 use answers::DONE;
 use answers::IMAGE_LENGTH;
 use numbers::word;
-use words::check::refusal_of;
+use starts::refusal_of;
 
 // 52 words of four bytes.
 const IMAGE_LEN: usize = 208;

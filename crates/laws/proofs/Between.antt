@@ -6,9 +6,6 @@ use mathlib.Core.Logic.{⊎-elim}
 use mathlib.Core.List.{List}
 use Prim.Native.Nat.{ℕ, _+_, _*_, _≤_, _<_}
 use native.Mathlib.Omega.{arith}
-use mir.Syntax.{w8}
-use borrow.Table.Referent.{fInt}
-use borrow.Rule.Slice.Know.{Fit}
 use lib.ListN.{getD, take, drop, length-take, List·getD-eq-default}
 use Rattle.lists.proofs.Choice.{split, pick-keeps}
 use Rattle.lists.proofs.Run.{run-keeps, run-after}
@@ -21,15 +18,12 @@ use Rattle.tables.specs.Selection.{activeAt}
 use Rattle.frames.specs.Scene.{Scene}
 use Rattle.frames.specs.Pixel.{bankBytes, colourIndex, graphicsAt, pictureAt, ownAt, alphaAt, covers, overAt}
 use Rattle.frames.specs.Band.{pixelAt}
-use Rattle.laws.specs.Painting.{Ready, OnScreen, channelAt, ownOver, AreBytes, OfBytes, shows, leastStep}
-use Rattle.laws.specs.Painting.{greatestStep, leastAt, greatestAt}
+use Rattle.frames.specs.Frame.{frameOf}
+use Rattle.laws.specs.Painting.{Ready, OnScreen, channelAt, ownOver, AreBytes, shows, leastStep}
+use Rattle.laws.specs.Painting.{greatestStep, leastAt, greatestAt, Between}
 use Rattle.laws.proofs.LayerLaws.{value-le, target-le}
 use Rattle.laws.proofs.Bands.{bandBy-keeps}
 use Rattle.laws.proofs.Pixels.{channelAt-is}
-
--- what the check knows of a lent `&[u8]`, that each of its entries fits 8 bits, is that it is of bytes
-pub lent-bytes : (l : List ℕ) → Fit (fInt w8) 0 l → AreBytes l
-lent-bytes l fit i = fit i .fits
 
 byte-le : (l : List ℕ) → AreBytes l → (i : ℕ) → getD l i 0 ≤ 255
 byte-le l b i = omega (arith, b i)
@@ -42,20 +36,20 @@ part-le l o n i b = ⊎-elim
     rw (List·getD-eq-default (take n (drop o l)) 0 {n = i} (omega (arith, length-take n (drop o l)))) (omega arith))
     (split i n)
 
-module _ (s : Scene) (bytes : OfBytes s) where
+module _ (s : Scene) (tables : AreBytes (s .tables)) (pictures : AreBytes (s .pictures)) where
   -- ---- alphas and channels are bytes
 
   graphics-le : (n u v c : ℕ) → graphicsAt (s .words) (s .tables) n v u c ≤ 255
   unfolding graphicsAt bankBytes
   graphics-le n u v c =
       part-le (s .tables) (activeAt (s .words) n 1) (kindLen 1)
-      (colourLen * colourIndex (s .words) (s .tables) n v u + c) (bytes .tables)
+      (colourLen * colourIndex (s .words) (s .tables) n v u + c) tables
 
   own-le : (n u v c : ℕ) → ownAt s n v u c ≤ 255
   unfolding ownAt pictureAt
   own-le n u v c =
       pick-keeps (λ (z : ℕ). z ≤ 255) (layerOf (s .words) n .graphics) _ _ (λ t. graphics-le n u v c)
-      (λ f. byte-le (s .pictures) (bytes .pictures) _)
+      (λ f. byte-le (s .pictures) pictures _)
 
   alpha-le : (n u v : ℕ) → alphaAt s n v u ≤ 255
   unfolding alphaAt
@@ -124,6 +118,10 @@ module _ (s : Scene) (bytes : OfBytes s) where
         (pixel-within x y c (leastAt s y x c) (greatestAt s y x c) (groundOf (s .words) c) ground-within layer-within)
 
 -- the law
-pub between : (s : Scene) (y x c : ℕ) → Ready s → OfBytes s → OnScreen (s .words) y x c
-    → (leastAt s y x c ≤ channelAt s y x c) × (channelAt s y x c ≤ greatestAt s y x c)
-between s y x c ready bytes on = channel-within s bytes x y c ready on
+pub between : (s : Scene) → Ready s → AreBytes (s .tables) → AreBytes (s .pictures) → Between s (frameOf s)
+unfolding channelAt
+between s ready bt bp =
+    record {
+      least = λ y x c on. channel-within s bt bp x y c ready on .0;
+      greatest = λ y x c on. channel-within s bt bp x y c ready on .1;
+    }

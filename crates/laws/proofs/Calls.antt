@@ -16,8 +16,8 @@ use Rattle.display.specs.State.{withActive}
 use Rattle.display.specs.Paint.{sceneWith, frameBytes}
 use Rattle.host.specs.Host.{wordsOf, sceneIn, hostAnswer, hostOutput}
 use Rattle.laws.specs.Painting.{Ready, Framing, Hosting, OnScreen, channelIn, channelAt, Neighbours, exchanged}
-use Rattle.laws.specs.Painting.{OpaqueAt, OtherUnder, Clear, withOff, withoutPicture, without, AreBytes, leastAt}
-use Rattle.laws.specs.Painting.{greatestAt}
+use Rattle.laws.specs.Painting.{OpaqueAt, OtherUnder, Clear, withOff, withoutPicture, without, AreBytes}
+use Rattle.laws.specs.Painting.{Between}
 use Rattle.laws.proofs.LayerLaws.{withOff-word}
 use Rattle.laws.proofs.Pixels.{ready-done}
 use Rattle.laws.proofs.Exchange.{exchange, exchanged-word}
@@ -117,22 +117,16 @@ invisible-host image image′ frame t p o n hn f clear long e =
     )
 
 -- ---- "each channel lies between the least and greatest of the background's and the covering layers'
--- there": of tables and pictures of bytes, as lent ones are (`lent-bytes`)
+-- there": of tables and pictures of bytes. `between_frame` and `between_host` of src/ have it of lent ones
+-- with nothing asked.
 
-pub between-frame : (d : Display) (t p o : List ℕ) (y x c : ℕ) → Framing d t p o → AreBytes t → AreBytes p
-    → OnScreen (d .active) y x c
-    → (leastAt (sceneWith d t p) y x c ≤ channelIn (d .active) (frameBytes d t p o) y x c)
-    × (channelIn (d .active) (frameBytes d t p o) y x c ≤ greatestAt (sceneWith d t p) y x c)
-unfolding channelAt
-between-frame d t p o y x c f bt bp on =
-    rw (frame-bytes d t p o f)
-    (between (sceneWith d t p) y x c (f .ready) (record { tables = bt; pictures = bp }) on)
+pub between-frame : (d : Display) (t p o : List ℕ) → Framing d t p o → AreBytes t → AreBytes p
+    → Between (sceneWith d t p) (frameBytes d t p o)
+between-frame d t p o f bt bp =
+    rw (frame-bytes d t p o f) (between (sceneWith d t p) (f .ready) bt bp)
 
-pub between-host : (image : List ℕ) (frame : ℕ) (t p o : List ℕ) (y x c : ℕ) → Hosting image frame t p o
-    → AreBytes t → AreBytes p → OnScreen (wordsOf image) y x c
-    → (leastAt (sceneIn image frame t p) y x c ≤ channelIn (wordsOf image) (hostOutput image frame t p o) y x c)
-    × (channelIn (wordsOf image) (hostOutput image frame t p o) y x c ≤ greatestAt (sceneIn image frame t p) y x c)
-unfolding channelAt
-between-host image frame t p o y x c f bt bp on =
+pub between-host : (image : List ℕ) (frame : ℕ) (t p o : List ℕ) → Hosting image frame t p o → AreBytes t → AreBytes p
+    → Between (sceneIn image frame t p) (hostOutput image frame t p o)
+between-host image frame t p o f bt bp =
     rw (host-bytes image frame t p o f)
-    (between (sceneIn image frame t p) y x c (f .ready) (record { tables = bt; pictures = bp }) on)
+    (between (sceneIn image frame t p) (f .ready) bt bp)

@@ -7,7 +7,7 @@ use borrow.Author.Tests.{eq-eqb}
 use lib.ListN.{length}
 use Rattle.tables.specs.Geometry.{tablesLen}
 use Rattle.display.specs.State.{fresh}
-use Rattle.lines.specs.Line.{lineOf}
+use Rattle.line.specs.Line.{lineOf}
 use Rattle.lines.specs.Sheet.{linesFrom, linesOf, sheetOf, programOf}
 use Rattle.laws.specs.Figures.{documentLine, documentReply}
 use Rattle.laws.specs.Small.{blank}

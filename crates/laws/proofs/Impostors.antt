@@ -23,8 +23,9 @@ use Rattle.display.proofs.PutLaws.{put-done}
 use Rattle.display.proofs.Unique.{writeCall, selectCall, toggleCall, startCall, putCall, fillCall, paintCall, frameCall}
 use Rattle.display.proofs.Unique.{write-tie, select-tie, toggle-tie, start-tie, put-tie, fill-tie, paint-tie, frame-tie}
 use Rattle.host.proofs.Unique.{hostCall, host-tie}
-use Rattle.lines.specs.Sizes.{mostPrinted, outLen}
-use Rattle.lines.specs.Line.{zeros}
+use Rattle.line.specs.Sizes.{mostPrinted}
+use Rattle.line.specs.Line.{zeros}
+use Rattle.lines.specs.Sizes.{outLen}
 use Rattle.laws.specs.Small.{grey, night, written, started, sizeless, selecting, blank, filled, white, clear, dim}
 use Rattle.laws.specs.Small.{bright, image, line, page, printed, replyWith, Paints, Frames, Hosts, Prints}
 use Rattle.laws.specs.Small.{Finishes, Feeds}

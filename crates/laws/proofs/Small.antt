@@ -30,12 +30,13 @@ use Rattle.display.specs.Reached.{Reached, by-new, by-write, by-select, by-star
 use Rattle.display.proofs.Unique.{paint-tie, frame-tie}
 use Rattle.host.specs.Host as host
 use Rattle.host.proofs.Unique.{host-tie}
-use Rattle.lines.specs.Hex.{valueOf, isHex, bytesIn, digitOf, digitsOf}
-use Rattle.lines.specs.Form.{countAt, wordAt, pastLoads, writesPlace, picturePlace, endPlace, isFormed}
-use Rattle.lines.specs.Steps.{stepOf, runOf, loadsAt, writesAt, stepsOf}
-use Rattle.lines.specs.Line.{startedOf, zeros, lentOf, framedOf, paintedOf, headOf, replyOf, closedOf, workOf, doneOf}
-use Rattle.lines.specs.Line.{outcomeOf, replyText, lineOf}
-use Rattle.lines.specs.Sizes.{mostPrinted, outLen}
+use Rattle.hex.specs.Hex.{valueOf, isHex, bytesIn, digitOf, digitsOf}
+use Rattle.steps.specs.Form.{countAt, wordAt, pastLoads, writesPlace, picturePlace, endPlace, isFormed}
+use Rattle.steps.specs.Steps.{stepOf, runOf, loadsAt, writesAt, stepsOf}
+use Rattle.line.specs.Line.{startedOf, zeros, lentOf, framedOf, paintedOf, headOf, replyOf, closedOf, workOf, doneOf}
+use Rattle.line.specs.Line.{outcomeOf, replyText, lineOf}
+use Rattle.line.specs.Sizes.{mostPrinted}
+use Rattle.lines.specs.Sizes.{outLen}
 use Rattle.lines.specs.Blocks.{endsIn, lineIn, fedRun, lastRun, begun, nextRun, turnOf, goesOn, turnsOf, feedOf}
 use Rattle.lines.specs.Blocks.{finishOf}
 use Rattle.lines.proofs.Unique.{run-line-tie, finish-tie, feed-tie}

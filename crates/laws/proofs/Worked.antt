@@ -33,8 +33,8 @@ use Rattle.frames.specs.Band.{layerStep, depthStep, bandBy, bandByte, bandOf}
 use Rattle.frames.specs.Frame.{fillByte, fillOf, frameOf}
 use Rattle.frames.proofs.PixelLaws.{covers-covered}
 use Rattle.laws.specs.Painting.{Ready, IsLayer, OnScreen, channelAt, withWords, Neighbours, withDepth, exchanged}
-use Rattle.laws.specs.Painting.{OpaqueAt, OtherUnder, Clear, withOff, without, AreBytes, OfBytes, leastStep}
-use Rattle.laws.specs.Painting.{greatestStep, leastAt, greatestAt}
+use Rattle.laws.specs.Painting.{OpaqueAt, OtherUnder, Clear, withOff, without, AreBytes, leastStep}
+use Rattle.laws.specs.Painting.{greatestStep, leastAt, greatestAt, Between}
 use Rattle.laws.specs.Worked.{dot, words, brown, red, apart, wideApart, shared, lit, sand, ink, none, boxIn}
 use Rattle.laws.specs.Worked.{sceneOn, beside, wideBeside, halves, covered, relaid, fadedAt, relaidAt, veiled}
 use Rattle.laws.specs.Worked.{drawnScene}
@@ -284,19 +284,11 @@ bytes-zero : (n : ℕ) → AreBytes (replicate n 0)
 bytes-zero zero i = omega arith
 bytes-zero (suc n) i = bytes-more 0 (replicate n 0) (omega arith) (bytes-zero n) i
 
-of-bytes : OfBytes beside
-of-bytes =
-    record {
-      tables = bytes-zero tablesLen;
-      pictures = bytes-pixel 200 100 50 128 (ink 128) (omega arith) (omega arith) (omega arith) (omega arith)
-          (bytes-pixel 1 2 3 128 [] (omega arith) (omega arith) (omega arith) (omega arith) (λ i. omega arith));
-    }
-
-pub between-worked : (leastAt beside 0 0 0 ≤ channelAt beside 0 0 0)
-    × (channelAt beside 0 0 0 ≤ greatestAt beside 0 0 0)
+pub between-worked : Between beside (frameOf beside)
 between-worked =
-    between beside 0 0 0 (ready-apart 128 128) of-bytes
-    (record { across = omega arith; down = omega arith; channel = omega arith })
+    between beside (ready-apart 128 128) (bytes-zero tablesLen)
+    (bytes-pixel 200 100 50 128 (ink 128) (omega arith) (omega arith) (omega arith) (omega arith)
+    (bytes-pixel 1 2 3 128 [] (omega arith) (omega arith) (omega arith) (omega arith) (λ i. omega arith)))
 
 -- the three numbers, and those of an alpha of 300, which no byte is
 pub between-300 : (leastAt beside 0 0 0 ∷ channelAt beside 0 0 0 ∷ greatestAt beside 0 0 0

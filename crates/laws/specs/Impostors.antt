@@ -24,11 +24,12 @@ use Rattle.display.specs.declared.Display.{Display}
 use Rattle.display.specs.declared.Told.{Told}
 use Rattle.display.specs.State.{fresh, told, withErrors, startOf}
 use Rattle.display.specs.Paint.{sceneWith}
-use Rattle.lines.specs.Sizes.{mostPrinted, outLen}
-use Rattle.lines.specs.Hex.{bytesIn}
-use Rattle.lines.specs.Form.{picturePlace}
-use Rattle.lines.specs.Steps.{Midway, midway, runOf, stepsOf}
-use Rattle.lines.specs.Line.{startedOf, framedOf, replyOf, replyText}
+use Rattle.hex.specs.Hex.{bytesIn}
+use Rattle.steps.specs.Form.{picturePlace}
+use Rattle.steps.specs.Steps.{Midway, midway, runOf, stepsOf}
+use Rattle.line.specs.Sizes.{mostPrinted}
+use Rattle.line.specs.Line.{startedOf, framedOf, replyOf, replyText}
+use Rattle.lines.specs.Sizes.{outLen}
 use Rattle.laws.specs.Small.{blank, filled, white, line, page, scene, hostScene, Paints, Frames, Hosts, Prints}
 use Rattle.laws.specs.Small.{Finishes, Feeds}
 

@@ -158,17 +158,11 @@ withoutPicture w n pictures = cut (pictureStart w n) (pictureLenAt w n) pictures
 unfoldable pub without : Scene → ℕ → Scene
 without s n = sceneOf (withOff (s .words) n) (s .frame) (s .tables) (withoutPicture (s .words) n (s .pictures))
 
--- ---- "each channel lies between the least and greatest of the background's and the covering layers'
--- there"
+-- ---- "each channel lies between the least and greatest of the background's and the covering layers' there"
 
--- each number of a list is a byte, as each of a lent `&[u8]` is (`lent-bytes`)
+-- each number of a list is a byte, as each of a lent `&[u8]` is
 abbrev pub AreBytes : List ℕ → Type 0
 AreBytes l = (i : ℕ) → getD l i 0 < 256
-
--- tables and pictures are bytes
-pub record OfBytes (s : Scene) : Type 0 where
-  pub tables : AreBytes (s .tables)
-  pub pictures : AreBytes (s .pictures)
 
 -- a layer that covers the pixel
 abbrev pub shows : Scene → ℕ → ℕ → ℕ → Bool
@@ -189,3 +183,8 @@ leastAt s y x c = run 0 8 (leastStep s y x c) (groundOf (s .words) c)
 -- and the greatest
 unfoldable pub greatestAt : Scene → ℕ → ℕ → ℕ → ℕ
 greatestAt s y x c = run 0 8 (greatestStep s y x c) (groundOf (s .words) c)
+
+-- each channel of each pixel of an output lies between the two
+pub record Between (s : Scene) (out : List ℕ) : Type 0 where
+  pub least : (y x c : ℕ) → OnScreen (s .words) y x c → leastAt s y x c ≤ channelIn (s .words) out y x c
+  pub greatest : (y x c : ℕ) → OnScreen (s .words) y x c → channelIn (s .words) out y x c ≤ greatestAt s y x c

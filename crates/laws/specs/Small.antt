@@ -16,12 +16,13 @@ use Rattle.display.specs.Paint.{sceneWith, paintBytes, frameBytes}
 use Rattle.display.proofs.Unique.{paintCall, frameCall}
 use Rattle.host.specs.Host.{sceneIn, hostOutput}
 use Rattle.host.proofs.Unique.{hostCall}
+use Rattle.hex.specs.Hex.{digitsOf}
+use Rattle.line.specs.declared.Printed.{Printed}
+use Rattle.line.specs.Sizes.{mostPrinted, lineFeed}
+use Rattle.line.specs.Line.{zeros, twoBytes, fourBytes, headOf, replyText, lineOf}
 use Rattle.lines.specs.declared.blocks.Fed.{Fed}
 use Rattle.lines.specs.declared.blocks.Going.{Going}
-use Rattle.lines.specs.declared.line.Printed.{Printed}
-use Rattle.lines.specs.Sizes.{mostKept, mostPrinted, outLen, lineFeed}
-use Rattle.lines.specs.Hex.{digitsOf}
-use Rattle.lines.specs.Line.{zeros, twoBytes, fourBytes, headOf, replyText, lineOf}
+use Rattle.lines.specs.Sizes.{mostKept, outLen}
 use Rattle.lines.specs.Blocks.{begun}
 use Rattle.lines.proofs.Unique.{runLineCall, feedCall, finishCall}
 use Rattle.laws.specs.Figures.{bytesOf}

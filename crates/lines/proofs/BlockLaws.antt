@@ -14,11 +14,12 @@ use Rattle.bytes.specs.Bytes.{indexOf, slice}
 use Rattle.lists.specs.Over.{over}
 use Rattle.lists.proofs.Choice.{split, both-left, both-right}
 use Rattle.lists.proofs.Over.{over-none, take-over}
+use Rattle.line.specs.declared.Printed.{Printed}
+use Rattle.line.specs.Sizes.{mostPrinted, lineFeed}
+use Rattle.line.specs.Line.{Ran, lineOf, printedOf}
 use Rattle.lines.specs.declared.blocks.Going.{Going}
 use Rattle.lines.specs.declared.blocks.Fed.{Fed}
-use Rattle.lines.specs.declared.line.Printed.{Printed}
-use Rattle.lines.specs.Sizes.{mostKept, mostPrinted, outLen, lineFeed}
-use Rattle.lines.specs.Line.{Ran, lineOf, printedOf}
+use Rattle.lines.specs.Sizes.{mostKept, outLen}
 use Rattle.lines.specs.Blocks.{keptOf, endsIn, lineIn, usedIn, fedRun, lastRun, lineBegun, Batch, nextRun}
 use Rattle.lines.specs.Blocks.{turnOf, goesOn, turnsOf, feedOf, fedOf, finishOf}
 use Rattle.lines.specs.Engine.Turns.{lineRun, lineFed, batchAt}

@@ -1,8 +1,4 @@
 -- The laws that proofs of this crate and of crates above cite. Assumes nothing.
-pub mod HexLaws
-pub mod FormLaws
-pub mod StepLaws
-pub mod LineLaws
 pub mod BlockLaws
 pub mod CallLaws
 pub mod SheetLaws

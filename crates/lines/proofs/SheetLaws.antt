@@ -17,9 +17,10 @@ use Rattle.lists.specs.Over.{over}
 use Rattle.lists.proofs.Choice.{split, choose-keeps}
 use Rattle.lists.proofs.Over.{take-over}
 use Rattle.display.specs.declared.Display.{Display}
+use Rattle.line.specs.Sizes.{mostDigits, lineFeed}
+use Rattle.line.specs.Line.{badOf, outcomeOf, Ran, idle, lineOf}
 use Rattle.lines.specs.declared.blocks.Going.{Going}
-use Rattle.lines.specs.Sizes.{mostDigits, mostKept, lineFeed}
-use Rattle.lines.specs.Line.{badOf, outcomeOf, Ran, idle, lineOf}
+use Rattle.lines.specs.Sizes.{mostKept}
 use Rattle.lines.specs.Sheet.{linesFrom, after, linesOf, sheetOf, firstTables, programOf}
 use Rattle.lines.specs.Blocks.{endsIn, lineIn, heldIn, usedIn, fedRun, lastRun, begun, lineBegun, Batch, openOf}
 use Rattle.lines.specs.Blocks.{restOf, nextRun, turnOf, goesOn, turnsOf, feedOf}

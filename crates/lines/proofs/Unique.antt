@@ -13,14 +13,16 @@ use Rattle.lists.specs.Call.{Call, callOf, Tied, OneOutcome}
 use Rattle.lists.specs.Over.{over}
 use Rattle.lists.proofs.Call.{itself, tied-unique}
 use Rattle.display.specs.declared.Display.{Display}
+use Rattle.line.specs.declared.Printed.{Printed}
+use Rattle.line.specs.Sizes.{mostPrinted}
+use Rattle.line.specs.Line.{Ran, lineOf, printedOf}
+use Rattle.line.proofs.Fits.{line-le}
 use Rattle.lines.specs.declared.blocks.Fed.{Fed}
 use Rattle.lines.specs.declared.blocks.Going.{Going}
-use Rattle.lines.specs.declared.line.Printed.{Printed}
-use Rattle.lines.specs.Sizes.{mostPrinted, outLen}
-use Rattle.lines.specs.Line.{Ran, lineOf, printedOf}
+use Rattle.lines.specs.Sizes.{outLen}
 use Rattle.lines.specs.Blocks.{begun, lineBegun, Batch, feedOf, fedOf, finishOf}
 use Rattle.lines.proofs.CallLaws.{feedOf-used}
-use Rattle.lines.proofs.Fits.{line-le, last-le, feed-count, feed-used}
+use Rattle.lines.proofs.Fits.{last-le, feed-count, feed-used}
 use Rattle.lines.proofs.run_line.Reads as run_line
 use Rattle.lines.proofs.begin.Reads as begin
 use Rattle.lines.proofs.feed.Reads as feed

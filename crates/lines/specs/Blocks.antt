@@ -10,10 +10,11 @@ use Rattle.lists.specs.Choice.{pick, choose, both}
 use Rattle.lists.specs.Over.{over}
 use Rattle.display.specs.declared.Display.{Display}
 use Rattle.display.specs.State.{fresh}
+use Rattle.line.specs.Sizes.{mostPrinted, lineFeed}
+use Rattle.line.specs.Line.{Ran, idle, lineOf}
 use Rattle.lines.specs.declared.blocks.Going.{Going}
 use Rattle.lines.specs.declared.blocks.Fed.{Fed}
-use Rattle.lines.specs.Sizes.{mostKept, mostPrinted, outLen, lineFeed}
-use Rattle.lines.specs.Line.{Ran, idle, lineOf}
+use Rattle.lines.specs.Sizes.{mostKept, outLen}
 
 -- ---- one line at most
 

@@ -5,8 +5,8 @@ use mathlib.Core.List.{List, [], _++_}
 use lib.ListN.{length, drop}
 use lib.Dec.{ltb}
 use Rattle.lists.specs.Choice.{choose}
+use Rattle.line.specs.Line.{Ran}
 use Rattle.lines.specs.declared.blocks.Going.{Going}
-use Rattle.lines.specs.Line.{Ran}
 use Rattle.lines.specs.Sheet.{after}
 use Rattle.lines.specs.Blocks.{Batch, restOf, feedOf, finishOf}
 

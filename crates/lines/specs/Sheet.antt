@@ -8,8 +8,8 @@ use Rattle.lists.specs.Choice.{choose}
 use Rattle.tables.specs.Geometry.{tablesLen}
 use Rattle.display.specs.declared.Display.{Display}
 use Rattle.display.specs.State.{fresh}
-use Rattle.lines.specs.Sizes.{lineFeed}
-use Rattle.lines.specs.Line.{zeros, Ran, idle, lineOf}
+use Rattle.line.specs.Sizes.{lineFeed}
+use Rattle.line.specs.Line.{zeros, Ran, idle, lineOf}
 
 -- "Lines end with a line feed; a last line without one counts if it has any byte.": the lines of a
 -- sheet whose first line has begun with x

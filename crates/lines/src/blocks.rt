@@ -1,19 +1,19 @@
 // A sheet that comes in blocks: lines gathered from their bytes, done once they have ended, and
 // printed one behind the other.
-use crate::line;
-use crate::line::Printed;
-use crate::sizes::LINE_FEED;
 use crate::sizes::MOST_KEPT;
-use crate::sizes::MOST_PRINTED;
 use crate::sizes::OUT_LEN;
 use display::Display;
+use line::LINE_FEED;
+use line::MOST_PRINTED;
+use line::Printed;
 use numbers::least;
 ghost use mathlib.Core.Path.{_≡_};
 ghost use Prim.Native.Nat.{_+_, _≤_, _<_};
 ghost use lib.ListN.{length, take};
 ghost use Rattle.lists.specs.Over.{over};
-ghost use Rattle.lines.specs.Sizes.{mostKept, mostPrinted, outLen};
-ghost use Rattle.lines.specs.Line.{printedOf};
+ghost use Rattle.line.specs.Sizes.{mostPrinted};
+ghost use Rattle.line.specs.Line.{printedOf};
+ghost use Rattle.lines.specs.Sizes.{mostKept, outLen};
 ghost use Rattle.lines.specs.Blocks.{keptOf, lineIn, lineBegun, begun, turnOf, goesOn, feedOf, fedOf, finishOf};
 ghost use Rattle.lines.specs.Engine.Turns.{lineRun, lineFed, batchAt};
 

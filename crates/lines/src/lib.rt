@@ -5,22 +5,19 @@ ghost use mathlib.Core.Path.{_≡_};
 ghost use Prim.Native.Nat.{_≤_, _<_};
 ghost use lib.ListN.{length};
 ghost use Rattle.lists.specs.Over.{over};
-ghost use Rattle.lines.specs.Sizes.{mostPrinted, outLen};
-ghost use Rattle.lines.specs.Line.{lineOf, printedOf};
+ghost use Rattle.line.specs.Sizes.{mostPrinted};
+ghost use Rattle.line.specs.Line.{lineOf, printedOf};
+ghost use Rattle.lines.specs.Sizes.{outLen};
 ghost use Rattle.lines.specs.Blocks.{begun, feedOf, fedOf, finishOf};
 
 mod blocks;
-mod form;
-mod hex;
-mod line;
 mod sizes;
-mod steps;
 
 pub use blocks::Fed;
 pub use blocks::Going;
+pub use line::MOST_PRINTED;
 pub use line::Printed;
 pub use sizes::MOST_KEPT;
-pub use sizes::MOST_PRINTED;
 pub use sizes::OUT_LEN;
 
 // Does a line, without its line feed, and prints its answer with one. A badly formed, empty or too

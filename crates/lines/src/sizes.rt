@@ -1,31 +1,8 @@
-// The numbers of a line and of what it prints, each once.
-
-// A line with one more digit is refused.
-pub const MOST_DIGITS: usize = 8192;
-
-// Two digits for each byte.
-pub const MOST_BYTES: usize = MOST_DIGITS / 2;
+// The numbers of a sheet that comes in blocks, each once.
+use line::MOST_DIGITS;
 
 // One byte more than a good line has, so that a longer one is still too long when it is cut.
 pub const MOST_KEPT: usize = MOST_DIGITS + 1;
 
-// The most bytes that a frame is lent.
-pub const MOST_LENT: usize = 4096;
-
-// What stands before the frame in a reply: answer, error word, width, height.
-pub const HEAD_LEN: usize = 9;
-
-// The bytes of the longest reply.
-pub const MOST_REPLY: usize = HEAD_LEN + MOST_LENT;
-
-// Two digits for each of them, and the line feed.
-pub const MOST_PRINTED: usize = 2 * MOST_REPLY + 1;
-
 // Answers to a block's lines are printed together, so that a write is not made for each.
 pub const OUT_LEN: usize = 65536;
-
-// What ends a line, read or printed.
-pub const LINE_FEED: u8 = 10;
-
-// Printed FE.
-pub const BAD_FORM: u8 = 254;

@@ -1,5 +1,4 @@
--- A list put in place of the front of another: what a buffer holds once it is written. Assumes
--- nothing.
+-- A list put in place of the front of another: what a buffer holds once it is written. Assumes nothing.
 use Prim.Native.Nat.{ℕ}
 use mathlib.Core.List.{List, _++_}
 use lib.ListN.{length, drop}

@@ -13,27 +13,27 @@ use Rattle.lists.specs.Tab.{tab}
 use Rattle.lists.specs.Steps.{through}
 use Rattle.lists.proofs.Tab.{tab-cong}
 use Rattle.words.specs.Fields.{shownOf, groundOf}
-use Rattle.span.specs.Span as span
-use Rattle.paint.specs.Painted.{answered}
-use Rattle.paint.specs.declared.plan.Plan.{Plan}
+use Rattle.colours.specs.Rows as rows
+use Rattle.plan.specs.declared.Plan.{Plan}
 use Rattle.words.specs.Order.{bandLayers}
 use Rattle.frames.specs.Scene.{Scene}
 use Rattle.frames.proofs.CallerLaws.{Fits}
 use Rattle.frames.specs.Band.{markAt, bandBy, bandOf, errorsOf}
 use Rattle.frames.specs.Frame.{frameLen, fillRefusal, refusalOf, fillByte, fillOf}
 use Rattle.frames.specs.Frame.{fillAfter, paintAfter, errorsAfter, frameOf, frameAfter}
-use Rattle.paint.specs.Engine.Plan.{Planned, markedTo}
-use Rattle.paint.specs.Engine.Lines.{Lent}
 use Rattle.frames.proofs.BandLaws.{band-through}
-use Rattle.paint.proofs.PlanLaws.{marks-is}
+use Rattle.plan.specs.Engine.Plan.{Planned, markedTo}
+use Rattle.scanline.specs.Engine.Lines.{Lent}
+use Rattle.paint.specs.Painted.{answered}
+use Rattle.plan.proofs.PlanLaws.{marks-is}
 
 pub fits-lent : (s : Scene) (a b out : ℕ) → Fits (s .words) a b out (length (s .tables)) (length (s .pictures)) → Lent s
 fits-lent s a b out f = record { tables = f .lent; pictures = f .shown }
 
 -- ---- a filled output
 
-pub fill-byte : (w : List ℕ) (i : ℕ) → span.solidByte (groundOf w 0) (groundOf w 1) (groundOf w 2) i ≡ fillByte w i
-unfolding span.pixelByte fillByte
+pub fill-byte : (w : List ℕ) (i : ℕ) → rows.solidByte (groundOf w 0) (groundOf w 1) (groundOf w 2) i ≡ fillByte w i
+unfolding rows.pixelByte fillByte
 fill-byte w i = go (i % 4) (omega arith)
   where
     go : (c : ℕ) → c < 4
@@ -45,10 +45,10 @@ fill-byte w i = go (i % 4) (omega arith)
     go (suc (suc (suc (suc c)))) h = absurd (let z : ⊥ = omega arith in z)
 
 pub filled-is : (w out : List ℕ) (n : ℕ) → n ≡ frameLen w
-    → out ≡ tab n (span.solidByte (groundOf w 0) (groundOf w 1) (groundOf w 2)) → out ≡ fillOf w
+    → out ≡ tab n (rows.solidByte (groundOf w 0) (groundOf w 1) (groundOf w 2)) → out ≡ fillOf w
 unfolding fillOf
 filled-is w out n q e =
-    e ∙ ap (λ (k : ℕ). tab k (span.solidByte (groundOf w 0) (groundOf w 1) (groundOf w 2))) q
+    e ∙ ap (λ (k : ℕ). tab k (rows.solidByte (groundOf w 0) (groundOf w 1) (groundOf w 2))) q
     ∙ tab-cong (frameLen w) _ _ (λ i h. fill-byte w i)
 
 pub fill-refused : (w out : List ℕ) (a : ℕ) → a ≡ fillRefusal w (length out) → (a ≡ 0 → ⊥) → out ≡ fillAfter w out

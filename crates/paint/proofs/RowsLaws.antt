@@ -19,7 +19,8 @@ use Rattle.words.specs.Fields.{widthOf, heightOf}
 use Rattle.frames.specs.Scene.{Scene}
 use Rattle.frames.specs.Band.{bandByte}
 use Rattle.frames.specs.Frame.{frameLen, fillByte}
-use Rattle.paint.specs.Engine.Lines.{bandLine, laidByte, laidLine, rowsByte}
+use Rattle.scanline.specs.Engine.Lines.{bandLine}
+use Rattle.paint.specs.Engine.Rows.{laidByte, laidLine, rowsByte}
 
 -- the whole output is the screen's lines
 pub frame-lines : (W H : ℕ) → H * (4 * W) ≡ 4 * (W * H)

@@ -8,22 +8,19 @@ ghost use Rattle.words.specs.Fields.{widthOf};
 ghost use Rattle.frames.specs.Scene.{sceneOf};
 ghost use Rattle.frames.specs.Band.{bandOf, errorsOf};
 ghost use Rattle.frames.specs.Frame.{frameLen, fillOf, fillRefusal, fillAfter, paintAfter, frameAfter};
+ghost use Rattle.scanline.specs.Engine.Lines.{Lent};
 ghost use Rattle.paint.specs.Painted.{toldOf};
-ghost use Rattle.paint.specs.Engine.Lines.{Lent};
-use crate::ground::lay_ground;
-use crate::plan::marks_of;
-use crate::plan::plan_of;
 use crate::rows::paint_rows;
 use answers::DONE;
+use plan::marks_of;
+use plan::plan_of;
 use refusals::DEPTHS;
 use refusals::fill_refusal;
 use refusals::paint_refusal;
+use scanline::ground::lay_ground;
 use words::fields::ground_of;
 use words::fields::is_shown;
 
-mod ground;
-mod line;
-mod plan;
 mod rows;
 
 // What painting answers: 0 or the number of the refusal, and the error word afterwards.
@@ -43,7 +40,7 @@ pub fn fill(w: &[u32; 52], out: &mut [u8]) -> u8
         return refusal;
     }
     let ground = ground_of(w);
-    span::fill(out, ground.c0, ground.c1, ground.c2);
+    colours::fill(out, ground.c0, ground.c1, ground.c2);
     DONE
 }
 

@@ -5,27 +5,33 @@ ghost use lib.ListN.{length};
 ghost use Rattle.mix.specs.Pixel.{pixelLen};
 ghost use Rattle.words.specs.Fields.{widthOf};
 ghost use Rattle.frames.specs.Frame.{frameLen};
-ghost use Rattle.paint.specs.Engine.Lines.{AllFit, Scratch, Lends, Holds, LineLaid, RowsLaid};
-use crate::ground::lay_first;
-use crate::line::paint_line;
-use crate::plan::Plan;
+ghost use Rattle.scanline.specs.Engine.Lines.{AllFit, Scratch, Lends};
+ghost use Rattle.paint.specs.Engine.Rows.{mostPixels, Holds, LineLaid, RowsLaid};
 use mix::PIXEL_LEN;
+use plan::Plan;
+use scanline::ground::lay_first;
+use scanline::line::paint_line;
 use words::fields::Ground;
 use words::fields::ground_of;
 use words::fields::screen_height;
 use words::fields::screen_width;
 
+// Pixels that a line has at most, since its width is a field of 12 bits, and their bytes.
+const MOST_PIXELS: usize = 4096;
+
+const MOST_BYTES: usize = PIXEL_LEN * MOST_PIXELS;
+
 // Room for the longest line of colour indexes, and for it as pixels.
-fn index_room() -> [u8; 4096]
-    ensures { λ r. ⌜ length r ≡ 4096 ⌝ }
+fn index_room() -> [u8; MOST_PIXELS]
+    ensures { λ r. ⌜ length r ≡ mostPixels ⌝ }
 {
-    [0u8; 4096]
+    [0; MOST_PIXELS]
 }
 
-fn pixel_room() -> [u8; 16384]
-    ensures { λ r. ⌜ length r ≡ 16384 ⌝ }
+fn pixel_room() -> [u8; MOST_BYTES]
+    ensures { λ r. ⌜ length r ≡ pixelLen * mostPixels ⌝ }
 {
-    [0u8; 16384]
+    [0; MOST_BYTES]
 }
 
 // Line y: its ground, and the layers of a plan over it.

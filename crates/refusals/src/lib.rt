@@ -10,10 +10,10 @@ use answers::PICTURES_LENGTH;
 use answers::TABLES_LENGTH;
 use answers::or_else;
 use mix::PIXEL_LEN;
+use order::pictures_of;
 use tables::TABLES_LEN;
 use words::fields::screen_height;
 use words::fields::screen_width;
-use words::pictures::pictures_of;
 
 // The depths that layers can have: a band's upper end is at most this.
 pub const DEPTHS: u32 = 8;

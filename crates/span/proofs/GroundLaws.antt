@@ -7,15 +7,17 @@ use native.Mathlib.Omega.{arith}
 use lib.ListN.{length, getD}
 use Rattle.lists.specs.Tab.{tab, each}
 use Rattle.lists.proofs.Tab.{length-tab, getD-tab, is-each}
-use Rattle.span.specs.Span.{overByte, wordByte, solidByte}
-use Rattle.span.specs.Engine.Lanes.{Part, Front, Lanes, anew, layByte, WordIs, Bytes, PixelIs, SameIs, HalfIs}
-use Rattle.span.specs.Engine.Lanes.{JoinIs, MixIs, AllAlpha, storeByte}
-use Rattle.span.proofs.PartLaws.{part-cong, part-over, part-to, block-turn, whole}
-use Rattle.span.proofs.LaneLaws.{storeByte-even, storeByte-odd}
+use Rattle.sixteen.specs.Engine.Lanes.{Part, Front, Lanes, anew, WordIs, Bytes, PixelIs, SameIs, HalfIs, JoinIs, MixIs}
+use Rattle.sixteen.specs.Engine.Lanes.{AllAlpha, storeByte}
+use Rattle.colours.specs.Rows.{wordByte, solidByte}
+use Rattle.span.specs.Span.{overByte}
+use Rattle.span.specs.Engine.Laid.{layByte}
+use Rattle.sixteen.proofs.PartLaws.{part-cong, part-over, part-to, block-turn, whole}
+use Rattle.sixteen.proofs.LaneLaws.{storeByte-even, storeByte-odd}
+use Rattle.colours.proofs.RowLaws.{pixelByte-at}
+use Rattle.colours.proofs.PixelLaws.{halves-byte, wordByte-is}
 use Rattle.span.proofs.OverLaws.{overByte-clear}
 use Rattle.span.proofs.OverParts.{AlphaIs, mix-bytes, copy-bytes, own-at}
-use Rattle.span.proofs.PixelLaws.{halves-byte, wordByte-is}
-use Rattle.span.proofs.RowLaws.{pixelByte-at}
 
 lay-is : (over : List ℕ) (g : Bool) (a : ℕ) (f : ℕ → ℕ) (i : ℕ) {p : ℕ} → p ≡ f i
     → overByte over g a i p ≡ layByte over g a f i

@@ -14,13 +14,14 @@ use Rattle.lists.proofs.Choice.{parity}
 use Rattle.lists.proofs.Digits.{mod-of}
 use Rattle.mix.specs.Blend.{blendOf}
 use Rattle.mix.proofs.BlendLaws.{blendOf-clear}
+use Rattle.sixteen.specs.Engine.Lanes.{Part, Reach, Front, Lanes, anew, WordIs, Bytes, PixelIs, HighIs, SameIs, MixIs}
+use Rattle.sixteen.specs.Engine.Lanes.{HalfIs, JoinIs, AllAlpha, storeByte}
 use Rattle.span.specs.Span.{overByte}
-use Rattle.span.specs.Engine.Lanes.{Part, Reach, Front, Lanes, anew, WordIs, Bytes, PixelIs, HighIs, SameIs}
-use Rattle.span.specs.Engine.Lanes.{MixIs, HalfIs, JoinIs, AllAlpha, Copied, storeByte}
-use Rattle.span.proofs.PartLaws.{part-none, part-set, part-skip, part-cong, pixel-turn, front-each}
-use Rattle.span.proofs.LaneLaws.{lanes-map, byParity-even, byParity-odd, storeByte-even, storeByte-odd, by-words}
+use Rattle.span.specs.Engine.Laid.{Copied}
+use Rattle.sixteen.proofs.PartLaws.{part-none, part-set, part-skip, part-cong, pixel-turn, front-each}
+use Rattle.sixteen.proofs.LaneLaws.{lanes-map, byParity-even, byParity-odd, storeByte-even, storeByte-odd, by-words}
+use Rattle.colours.proofs.PixelLaws.{halves-byte, wordByte-is, pixelByte-is, join-bytes}
 use Rattle.span.proofs.OverLaws.{overByte-channel, overByte-alpha, overByte-clear, overByte-opaque, overByte-own}
-use Rattle.span.proofs.PixelLaws.{halves-byte, wordByte-is, pixelByte-is, join-bytes}
 
 -- ---- blended blocks
 

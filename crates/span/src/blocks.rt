@@ -4,26 +4,29 @@ ghost use mathlib.Core.Path.{_≡_};
 ghost use mathlib.Core.Bool.{true, false};
 ghost use Prim.Native.Nat.{_+_, _%_, _≤_};
 ghost use lib.ListN.{length};
+ghost use Rattle.mix.specs.Pixel.{pixelLen};
+ghost use Rattle.sixteen.specs.Engine.Lanes.{blockLen, Part};
 ghost use Rattle.span.specs.Span.{overByte};
-ghost use Rattle.span.specs.Engine.Lanes.{Part, Copied};
-use super::lanes::mixed;
-use super::lanes::one_alpha;
-use super::lanes::own_alphas;
-use super::lanes::store;
-use super::lanes::words;
-use super::pixels::all_clear;
-use super::pixels::all_opaque;
-use super::pixels::halves;
-use super::pixels::joined;
-use super::pixels::pixels;
+ghost use Rattle.span.specs.Engine.Laid.{Copied};
 use mix::ALPHA_PLACE;
 use mix::OPAQUE;
 use mix::blend;
+use sixteen::lanes::mixed;
+use sixteen::lanes::one_alpha;
+use sixteen::lanes::own_alphas;
+use sixteen::lanes::store;
+use sixteen::lanes::words;
+use sixteen::pixels::all_clear;
+use sixteen::pixels::all_opaque;
+use sixteen::pixels::halves;
+use sixteen::pixels::joined;
+use sixteen::pixels::pixels;
 
 // Each pixel at its own alpha.
 fn blend16(out: &mut [u8], over: &[u8], i: usize)
-    requires { ⌜ (i + 64 ≤ length (now out)) × (i + 64 ≤ length (now over)) × (i % 4 ≡ 0) ⌝ }
-    ensures { λ _. ⌜ Part (now (out .exit)) (now (out .entry)) (overByte (now (over .entry)) false 0) i (i + 64) ⌝ }
+    requires { ⌜ (i + blockLen ≤ length (now out)) × (i + blockLen ≤ length (now over)) × (i % pixelLen ≡ 0) ⌝ }
+    ensures { λ _. ⌜ Part (now (out .exit)) (now (out .entry)) (overByte (now (over .entry)) false 0)
+        i (i + blockLen) ⌝ }
 {
     let o = words(over, i);
     let u = words(out, i);
@@ -34,8 +37,9 @@ fn blend16(out: &mut [u8], over: &[u8], i: usize)
 
 // All pixels at one alpha.
 pub fn flat16(out: &mut [u8], over: &[u8], i: usize, alpha: u8)
-    requires { ⌜ (i + 64 ≤ length (now out)) × (i + 64 ≤ length (now over)) × (i % 4 ≡ 0) ⌝ }
-    ensures { λ _. ⌜ Part (now (out .exit)) (now (out .entry)) (overByte (now (over .entry)) true alpha) i (i + 64) ⌝ }
+    requires { ⌜ (i + blockLen ≤ length (now out)) × (i + blockLen ≤ length (now over)) × (i % pixelLen ≡ 0) ⌝ }
+    ensures { λ _. ⌜ Part (now (out .exit)) (now (out .entry)) (overByte (now (over .entry)) true alpha)
+        i (i + blockLen) ⌝ }
 {
     let o = words(over, i);
     let u = words(out, i);
@@ -46,7 +50,7 @@ pub fn flat16(out: &mut [u8], over: &[u8], i: usize, alpha: u8)
 
 // The channels of the pixels p, with the alphas that stood there.
 fn put16(out: &mut [u8], p: [u32; 16], i: usize)
-    requires { ⌜ (i + 64 ≤ length (now out)) × (i % 4 ≡ 0) ⌝ }
+    requires { ⌜ (i + blockLen ≤ length (now out)) × (i % pixelLen ≡ 0) ⌝ }
     ensures { λ _. ⌜ Copied p i (now (out .exit)) (now (out .entry)) ⌝ }
 {
     let q = pixels(out, i);
@@ -57,8 +61,9 @@ fn put16(out: &mut [u8], p: [u32; 16], i: usize)
 
 // All pixels at the alpha 255.
 pub fn copy16(out: &mut [u8], over: &[u8], i: usize)
-    requires { ⌜ (i + 64 ≤ length (now out)) × (i + 64 ≤ length (now over)) × (i % 4 ≡ 0) ⌝ }
-    ensures { λ _. ⌜ Part (now (out .exit)) (now (out .entry)) (overByte (now (over .entry)) true 255) i (i + 64) ⌝ }
+    requires { ⌜ (i + blockLen ≤ length (now out)) × (i + blockLen ≤ length (now over)) × (i % pixelLen ≡ 0) ⌝ }
+    ensures { λ _. ⌜ Part (now (out .exit)) (now (out .entry)) (overByte (now (over .entry)) true 255)
+        i (i + blockLen) ⌝ }
 {
     let p = pixels(over, i);
     put16(out, p, i);
@@ -68,8 +73,9 @@ pub fn copy16(out: &mut [u8], over: &[u8], i: usize)
 // an opaque one. Three calls of `blend16` keep it a function of its own: inlined beside the tests
 // it takes 1.6 times as long.
 pub fn block(out: &mut [u8], over: &[u8], i: usize)
-    requires { ⌜ (i + 64 ≤ length (now out)) × (i + 64 ≤ length (now over)) × (i % 4 ≡ 0) ⌝ }
-    ensures { λ _. ⌜ Part (now (out .exit)) (now (out .entry)) (overByte (now (over .entry)) false 0) i (i + 64) ⌝ }
+    requires { ⌜ (i + blockLen ≤ length (now out)) × (i + blockLen ≤ length (now over)) × (i % pixelLen ≡ 0) ⌝ }
+    ensures { λ _. ⌜ Part (now (out .exit)) (now (out .entry)) (overByte (now (over .entry)) false 0)
+        i (i + blockLen) ⌝ }
 {
     let a = over[i + ALPHA_PLACE];
     if a == 0 {
@@ -94,8 +100,9 @@ pub fn block(out: &mut [u8], over: &[u8], i: usize)
 
 // One pixel, at the alpha a.
 pub fn pixel(out: &mut [u8], over: &[u8], i: usize, a: u8)
-    requires { ⌜ (i + 4 ≤ length (now out)) × (i + 4 ≤ length (now over)) × (i % 4 ≡ 0) ⌝ }
-    ensures { λ _. ⌜ Part (now (out .exit)) (now (out .entry)) (overByte (now (over .entry)) true a) i (i + 4) ⌝ }
+    requires { ⌜ (i + pixelLen ≤ length (now out)) × (i + pixelLen ≤ length (now over)) × (i % pixelLen ≡ 0) ⌝ }
+    ensures { λ _. ⌜ Part (now (out .exit)) (now (out .entry)) (overByte (now (over .entry)) true a)
+        i (i + pixelLen) ⌝ }
 {
     let c0 = blend(a, over[i], out[i]);
     let c1 = blend(a, over[i + 1], out[i + 1]);

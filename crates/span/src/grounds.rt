@@ -4,31 +4,33 @@ ghost use mathlib.Core.Path.{_≡_};
 ghost use mathlib.Core.Bool.{true, false};
 ghost use Prim.Native.Nat.{_+_, _%_, _≤_};
 ghost use lib.ListN.{length};
-ghost use Rattle.span.specs.Span.{wordByte, solidByte};
-ghost use Rattle.span.specs.Engine.Lanes.{Part, Front, anew, layByte};
-use super::digits::pixel_of;
-use super::lanes::mixed;
-use super::lanes::one_alpha;
-use super::lanes::own_alphas;
-use super::lanes::store;
-use super::lanes::words;
-use super::pixels::all_clear;
-use super::pixels::all_opaque;
-use super::pixels::halves;
-use super::pixels::joined;
-use super::pixels::pixels;
-use super::pixels::repeated;
-use super::rows::repeat16;
-use super::sizes::BLOCK_LEN;
+ghost use Rattle.mix.specs.Pixel.{pixelLen};
+ghost use Rattle.sixteen.specs.Engine.Lanes.{blockLen, Part, Front, anew};
+ghost use Rattle.colours.specs.Rows.{wordByte, solidByte};
+ghost use Rattle.span.specs.Engine.Laid.{layByte};
+use colours::repeat16;
 use mix::ALPHA_PLACE;
 use mix::OPAQUE;
+use sixteen::digits::pixel_of;
+use sixteen::lanes::mixed;
+use sixteen::lanes::one_alpha;
+use sixteen::lanes::own_alphas;
+use sixteen::lanes::store;
+use sixteen::lanes::words;
+use sixteen::pixels::all_clear;
+use sixteen::pixels::all_opaque;
+use sixteen::pixels::halves;
+use sixteen::pixels::joined;
+use sixteen::pixels::pixels;
+use sixteen::pixels::repeated;
+use sixteen::sizes::BLOCK_LEN;
 
 // A block over the pixel c, each pixel at its own alpha. The pixel comes as one word: sixteen of
 // them by value would be copied each time.
 fn lay16(out: &mut [u8], over: &[u8], c: u32, i: usize)
-    requires { ⌜ (i + 64 ≤ length (now out)) × (i + 64 ≤ length (now over)) × (i % 4 ≡ 0) ⌝ }
+    requires { ⌜ (i + blockLen ≤ length (now out)) × (i + blockLen ≤ length (now over)) × (i % pixelLen ≡ 0) ⌝ }
     ensures { λ _. ⌜ Part (now (out .exit)) (now (out .entry))
-        (anew (layByte (now (over .entry)) false 0 (wordByte c))) i (i + 64) ⌝ }
+        (anew (layByte (now (over .entry)) false 0 (wordByte c))) i (i + blockLen) ⌝ }
 {
     let o = words(over, i);
     let p = repeated(c);
@@ -40,9 +42,9 @@ fn lay16(out: &mut [u8], over: &[u8], c: u32, i: usize)
 
 // The same with all pixels at one alpha.
 fn lay_flat16(out: &mut [u8], over: &[u8], c: u32, alpha: u8, i: usize)
-    requires { ⌜ (i + 64 ≤ length (now out)) × (i + 64 ≤ length (now over)) × (i % 4 ≡ 0) ⌝ }
+    requires { ⌜ (i + blockLen ≤ length (now out)) × (i + blockLen ≤ length (now over)) × (i % pixelLen ≡ 0) ⌝ }
     ensures { λ _. ⌜ Part (now (out .exit)) (now (out .entry))
-        (anew (layByte (now (over .entry)) true alpha (wordByte c))) i (i + 64) ⌝ }
+        (anew (layByte (now (over .entry)) true alpha (wordByte c))) i (i + blockLen) ⌝ }
 {
     let o = words(over, i);
     let p = repeated(c);
@@ -55,9 +57,9 @@ fn lay_flat16(out: &mut [u8], over: &[u8], c: u32, alpha: u8, i: usize)
 // A block over the pixel c, where no byte is blended for a clear one and for an opaque one. Three
 // calls of `lay16` keep it a function of its own.
 fn lay_block(out: &mut [u8], over: &[u8], c: u32, i: usize)
-    requires { ⌜ (i + 64 ≤ length (now out)) × (i + 64 ≤ length (now over)) × (i % 4 ≡ 0) ⌝ }
+    requires { ⌜ (i + blockLen ≤ length (now out)) × (i + blockLen ≤ length (now over)) × (i % pixelLen ≡ 0) ⌝ }
     ensures { λ _. ⌜ Part (now (out .exit)) (now (out .entry))
-        (anew (layByte (now (over .entry)) false 0 (wordByte c))) i (i + 64) ⌝ }
+        (anew (layByte (now (over .entry)) false 0 (wordByte c))) i (i + blockLen) ⌝ }
 {
     let a = over[i + ALPHA_PLACE];
     if a == 0 {

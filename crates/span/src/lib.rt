@@ -1,23 +1,21 @@
-// Runs of pixels: one blended over another, a line of colour indexes as pixels, a filled row. Each
-// is one function with one contract, so that its inside can be made faster and nothing above it is
-// proved again. Nothing here knows of layers or frames.
+// Runs of pixels: one blended over another, or over a row of one colour. Each is one function with one
+// contract, so that its inside can be made faster and nothing above it is proved again. Nothing here knows
+// of layers or frames.
 ghost use mathlib.Core.Path.{_≡_};
 ghost use mathlib.Core.Bool.{true, false};
-ghost use Prim.Native.Nat.{_*_, _%_};
+ghost use Prim.Native.Nat.{_%_};
 ghost use lib.ListN.{length};
 ghost use Rattle.lists.specs.Tab.{tab, each};
 ghost use Rattle.mix.specs.Pixel.{pixelLen};
-ghost use Rattle.span.specs.Span.{paletteLen, overByte, colourByte, solidByte, PaletteOf};
+ghost use Rattle.colours.specs.Rows.{solidByte};
+ghost use Rattle.span.specs.Span.{overByte};
 
 mod blocks;
-mod digits;
 mod grounds;
-mod lanes;
-mod pixels;
-mod rows;
 mod runs;
-mod sizes;
 
+use colours::fill;
+use colours::fill_rest;
 use mix::OPAQUE;
 
 // Blends the run `over` over `out`, each pixel at its own alpha.
@@ -47,34 +45,6 @@ pub fn blend_flat(out: &mut [u8], over: &[u8], alpha: u8)
     runs::flat_rest(out, over, i, alpha);
 }
 
-// The colours of a bank as words, for `expand`. They are as many as the pixels of a block, and are read
-// as one.
-pub fn palette(colours: &[u8]) -> [u32; 16]
-    requires { ⌜ length (now colours) ≡ paletteLen ⌝ }
-    ensures { λ r. ⌜ PaletteOf r (now (colours .entry)) ⌝ }
-{
-    pixels::pixels(colours, 0)
-}
-
-// Writes a line of colour indexes as a row of pixels. The palette comes as words, made once, since
-// a pixel is then one read and one store.
-pub fn expand(line: &[u8], palette: [u32; 16], row: &mut [u8])
-    requires { ⌜ length (now row) ≡ pixelLen * length (now line) ⌝ }
-    ensures { λ _. ⌜ now (row .exit) ≡ tab (length (now (row .entry))) (colourByte (now (line .entry)) palette) ⌝ }
-{
-    let j = rows::expand_blocks(line, &palette, row);
-    rows::expand_rest(line, &palette, row, j);
-}
-
-// Fills a row with one opaque colour.
-pub fn fill(out: &mut [u8], c0: u8, c1: u8, c2: u8)
-    requires { ⌜ length (now out) % pixelLen ≡ 0 ⌝ }
-    ensures { λ _. ⌜ now (out .exit) ≡ tab (length (now (out .entry))) (solidByte c0 c1 c2) ⌝ }
-{
-    let i = rows::fill_blocks(out, c0, c1, c2);
-    rows::fill_rest(out, i, c0, c1, c2);
-}
-
 // Blends the run `over` over a row of one opaque colour, each pixel at its own alpha. What `out` held
 // does not count, so that such a row is not written twice.
 pub fn lay(out: &mut [u8], over: &[u8], c0: u8, c1: u8, c2: u8)
@@ -83,7 +53,7 @@ pub fn lay(out: &mut [u8], over: &[u8], c0: u8, c1: u8, c2: u8)
         (tab (length (now (out .entry))) (solidByte c0 c1 c2)) ⌝ }
 {
     let i = grounds::lay_blocks(out, over, c0, c1, c2);
-    rows::fill_rest(out, i, c0, c1, c2);
+    fill_rest(out, i, c0, c1, c2);
     runs::own_rest(out, over, i);
 }
 
@@ -99,6 +69,6 @@ pub fn lay_flat(out: &mut [u8], over: &[u8], alpha: u8, c0: u8, c1: u8, c2: u8)
         return;
     }
     let i = grounds::lay_flat_blocks(out, over, alpha, c0, c1, c2);
-    rows::fill_rest(out, i, c0, c1, c2);
+    fill_rest(out, i, c0, c1, c2);
     runs::flat_rest(out, over, i, alpha);
 }

@@ -4,15 +4,16 @@ ghost use mathlib.Core.Path.{_≡_};
 ghost use mathlib.Core.Bool.{true, false};
 ghost use Prim.Native.Nat.{_%_, _≤_};
 ghost use lib.ListN.{length};
+ghost use Rattle.mix.specs.Pixel.{pixelLen};
+ghost use Rattle.sixteen.specs.Engine.Lanes.{Part, Front};
 ghost use Rattle.span.specs.Span.{overByte};
-ghost use Rattle.span.specs.Engine.Lanes.{Part, Front};
 use super::blocks::block;
 use super::blocks::copy16;
 use super::blocks::flat16;
 use super::blocks::pixel;
-use super::sizes::BLOCK_LEN;
 use mix::ALPHA_PLACE;
 use mix::PIXEL_LEN;
+use sixteen::sizes::BLOCK_LEN;
 
 // The blocks, each pixel at its own alpha.
 pub fn own_blocks(out: &mut [u8], over: &[u8]) -> usize
@@ -29,8 +30,8 @@ pub fn own_blocks(out: &mut [u8], over: &[u8]) -> usize
 
 // The pixels from `from` on, each at its own alpha.
 pub fn own_rest(out: &mut [u8], over: &[u8], from: usize)
-    requires { ⌜ (length (now out) ≡ length (now over)) × (length (now out) % 4 ≡ 0)
-        × (from ≤ length (now out)) × (from % 4 ≡ 0) ⌝ }
+    requires { ⌜ (length (now out) ≡ length (now over)) × (length (now out) % pixelLen ≡ 0)
+        × (from ≤ length (now out)) × (from % pixelLen ≡ 0) ⌝ }
     ensures { λ _. ⌜ Part (now (out .exit)) (now (out .entry))
         (overByte (now (over .entry)) false 0) from (length (now (out .entry))) ⌝ }
 {
@@ -69,8 +70,8 @@ pub fn copy_blocks(out: &mut [u8], over: &[u8]) -> usize
 
 // The pixels from `from` on, at one alpha.
 pub fn flat_rest(out: &mut [u8], over: &[u8], from: usize, alpha: u8)
-    requires { ⌜ (length (now out) ≡ length (now over)) × (length (now out) % 4 ≡ 0)
-        × (from ≤ length (now out)) × (from % 4 ≡ 0) ⌝ }
+    requires { ⌜ (length (now out) ≡ length (now over)) × (length (now out) % pixelLen ≡ 0)
+        × (from ≤ length (now out)) × (from % pixelLen ≡ 0) ⌝ }
     ensures { λ _. ⌜ Part (now (out .exit)) (now (out .entry))
         (overByte (now (over .entry)) true alpha) from (length (now (out .entry))) ⌝ }
 {

@@ -1,5 +1,5 @@
--- The laws that the crates above cite, and those that the proofs here rest on. Assumes nothing.
-mod PassedLaws
+-- The laws of the definitions, which the crates above cite, and those of the functions here. Assumes nothing.
+pub mod PassedLaws
 pub mod OrderLaws
 pub mod PictureLaws
 pub mod CheckLaws

@@ -9,9 +9,6 @@ use Rattle.words.proofs.fields.screen_height.Reads as screen_height
 use Rattle.words.proofs.fields.ground_of.Reads as ground_of
 use Rattle.words.proofs.fields.active_bank.Reads as active_bank
 use Rattle.words.proofs.fields.layer_of.Reads as layer_of
-use Rattle.words.proofs.check.refusal_of.Reads as refusal_of
-use Rattle.words.proofs.order.order_of.Reads as order_of
-use Rattle.words.proofs.pictures.pictures_of.Reads as pictures_of
 
 pub is-shown-unique : (κs i a b e f : _) → is_shown.Post κs i a e → is_shown.Post κs i b f → a ≡ b
 is-shown-unique κs i a b e f p q = meet p q
@@ -33,12 +30,3 @@ active-bank-unique κs i a b e f p q = meet p q
 
 pub layer-of-unique : (κs i a b e f : _) → layer_of.Post κs i a e → layer_of.Post κs i b f → a ≡ b
 layer-of-unique κs i a b e f p q = meet p q
-
-pub refusal-of-unique : (κs i a b e f : _) → refusal_of.Post κs i a e → refusal_of.Post κs i b f → a ≡ b
-refusal-of-unique κs i a b e f p q = meet p q
-
-pub order-of-unique : (κs i a b e f : _) → order_of.Post κs i a e → order_of.Post κs i b f → a ≡ b
-order-of-unique κs i a b e f p q = meet p q
-
-pub pictures-of-unique : (κs i a b e f : _) → pictures_of.Post κs i a e → pictures_of.Post κs i b f → a ≡ b
-pictures-of-unique κs i a b e f p q = meet p q

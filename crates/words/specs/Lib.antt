@@ -1,6 +1,5 @@
--- What `src/` promises; `Engine` is for the workers inside. Assumes nothing.
+-- What the fields of the words are, and what the crates above promise of them. Assumes nothing.
 pub mod Fields
 pub mod Check
 pub mod Order
 pub mod Pictures
-pub mod Engine

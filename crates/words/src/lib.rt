@@ -1,6 +1,4 @@
-// The 52 register words: their fields by name, the check that a start makes, the order of the
-// layers and where each picture begins. All of it is a function of words alone.
-pub mod check;
+// The 52 register words: their fields by name, and the record of where pictures begin. What a start checks, the
+// order of layers and where pictures begin are defined in `specs/`; the crates above compute them.
 pub mod fields;
-pub mod order;
 pub mod pictures;

@@ -3,9 +3,9 @@
 use Prim.Native.Nat.{ℕ}
 use mathlib.Core.List.{List}
 use lib.ListN.{length, take}
+use Rattle.line.specs.Line.{Ran}
 use Rattle.lines.specs.declared.blocks.Going.{Going}
 use Rattle.lines.specs.declared.blocks.Fed.{Fed}
-use Rattle.lines.specs.Line.{Ran}
 use Rattle.lines.specs.Blocks.{Batch, lineBegun, heldIn, usedIn, fedRun}
 
 -- the bytes l fed to the end of one line at most, with u as the text's buffer

@@ -8,10 +8,10 @@ use denote.Ref.{now}
 use borrow.Author.Tests.{not-true, not-false}
 use Rattle.lists.proofs.Tab.{length-each}
 use Rattle.frames.specs.Band.{errorsOf, bandOf}
-use Rattle.paint.proofs.PlanLaws.{planned-numbered}
-use Rattle.paint.proofs.FitLaws.{band-ready}
-use Rattle.paint.proofs.FrameLaws.{off-band, marks-done}
+use Rattle.plan.proofs.PlanLaws.{planned-numbered}
+use Rattle.scanline.proofs.FitLaws.{band-ready}
 use Rattle.paint.proofs.GroundLaws.{ground-all, laid-band}
+use Rattle.paint.proofs.FrameLaws.{off-band, marks-done}
 use Rattle.paint.proofs.paint_band.Statement.{statement}
 use Rattle.paint.proofs.paint_band.Tie as tie
 

@@ -1,6 +1,6 @@
 -- `sheet::no_tables` meets its contract: the array is `zeros` computed. Assumes nothing.
 use mathlib.Core.Path.{refl}
-use Rattle.lines.specs.Line.{zeros}
+use Rattle.line.specs.Line.{zeros}
 use Rattle.sheet.proofs.no_tables.Statement.{statement}
 use Rattle.sheet.proofs.no_tables.Tie as tie
 

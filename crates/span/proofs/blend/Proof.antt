@@ -1,6 +1,6 @@
 -- `span::blend` meets its contract: the blocks and the rest are the whole run. Assumes nothing.
 use borrow.Author.Needs.{needs}
-use Rattle.span.proofs.PartLaws.{front-each}
+use Rattle.sixteen.proofs.PartLaws.{front-each}
 use Rattle.span.proofs.blend.Statement.{statement}
 use Rattle.span.proofs.blend.Tie as tie
 

@@ -1,7 +1,7 @@
 -- `span::blend_flat` meets its contract: at 0 the rule leaves every byte; else the blocks and the
 -- rest are the whole run. Assumes nothing.
 use borrow.Author.Needs.{needs}
-use Rattle.span.proofs.PartLaws.{front-each}
+use Rattle.sixteen.proofs.PartLaws.{front-each}
 use Rattle.span.proofs.OverLaws.{each-overByte-clear}
 use Rattle.span.proofs.OverParts.{opaque-each}
 use Rattle.span.proofs.blend_flat.Statement.{statement}

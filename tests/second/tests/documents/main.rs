@@ -12,12 +12,13 @@
 //!   impostors that letters stand for in `laws/proofs/Impostors`, and the labels under Edits in
 //!   `must-fail/` of the section's crate, the row's, or the one before the colon;
 //! - a name "of" a path is declared there, and an edit "of" crates stands in each of them:
-//!   `RESERVED` of `words/src/check.rt`, `divide_by_256` of `mix` and `span`;
+//!   `RESERVED` of `starts/src/lib.rt`, `divide_by_256` of `mix` and `span`;
 //! - every other name is declared in some crate, `mix::fade` in that one, or is a crate's, an
 //!   edit's, or one of `WORDS`;
 //! - every edit of the tree is named in PROMISES.
 //!
-//! And the files of PROOF-MAP's reading list have at most `MOST_READ` lines.
+//! And the files of PROOF-MAP's reading list have at most `MOST_READ` lines, and the rooms of
+//! docs/DECISIONS.md are listed in crates.txt by the crates that it names and by no other.
 //!
 //! `F-spec` is declared where the function F is. Faults are told all at once, each with its line.
 
@@ -95,6 +96,27 @@ fn what_has_to_be_read_is_short() {
     assert!(lines <= MOST_READ, "{lines} lines");
 }
 
+/// The crates that list a crate, in crates.txt's order.
+fn listed_by(crates: &str, room: &str) -> Vec<String> {
+    let lines = crates.lines().filter(|line| !line.starts_with('#'));
+    let crates = lines.filter_map(|line| line.split_once(':'));
+    let lists = |below: &str| below.split_whitespace().any(|word| word == room);
+    crates.filter(|(_, below)| lists(below)).map(|(name, _)| name.to_string()).collect()
+}
+
+#[test]
+fn rooms_are_closed() {
+    let text = text_of("docs/DECISIONS.md");
+    let table = text.split("| Room | Listed by |\n|---|---|\n").nth(1).expect("the rooms");
+    let rows: Vec<&str> = table.lines().take_while(|line| line.starts_with('|')).collect();
+    assert!(rows.len() > 3, "{} rooms", rows.len());
+    let crates = text_of("crates.txt");
+    for row in rows {
+        let names: Vec<String> = names_in(row).into_iter().map(|name| name.text).collect();
+        assert_eq!(listed_by(&crates, &names[0]), names[1..], "the room {}", names[0]);
+    }
+}
+
 /// A right line and a wrong one.
 const LINES: [(&str, &str); 9] = [
     ("`words/specs/Check`, `Fields`", "`words/specs/Chek`"),
@@ -104,7 +126,7 @@ const LINES: [(&str, &str); 9] = [
     ("`checkOf`", "`checkedOf`"),
     ("`start-spec` (`display/proofs/`)", "`start-spec` (`mix/proofs/`)"),
     ("`mix::fade`", "`span::fade`"),
-    ("`RESERVED` of `words/src/check.rt`", "`RESERVED` of `words/src/order.rt`"),
+    ("`RESERVED` of `starts/src/lib.rt`", "`RESERVED` of `order/src/lib.rt`"),
     ("`divide_by_256` of `mix`", "`divide_by_256` of `mix` and `words`"),
 ];
 
@@ -113,7 +135,7 @@ const TABLES: [(&str, &str, &str, &str); 8] = [
     ("words", "Definition|", "`checkOf` (Check)|", "`checkOf` (Fields)|"),
     ("words", "Definition|", "`blendOf` (mix, Blend)|", "`blendOf` (mix, Fade)|"),
     ("words", "Of `words/specs/Check`|", "`checkOf`|", "`layerOf`|"),
-    ("words", "Edits|", "`top_layer_first`|", "`divide_by_256`|"),
+    ("order", "Edits|", "`top_layer_first`|", "`divide_by_256`|"),
     ("words", "Edits|", "mix: `divide_by_256`|", "mix: `top_layer_first`|"),
     (
         "laws",

@@ -4,8 +4,8 @@ use borrow.Author.Needs.{needs}
 use mathlib.Core.Path.{refl, _∙_}
 use native.Mathlib.Omega.{arith}
 use Rattle.lists.proofs.Tab.{length-each}
-use Rattle.paint.proofs.PlanLaws.{planned-first}
-use Rattle.paint.proofs.LineLaws.{line-done}
+use Rattle.plan.proofs.PlanLaws.{planned-first}
+use Rattle.scanline.proofs.LineLaws.{line-done}
 use Rattle.paint.proofs.GroundLaws.{ground-line}
 use Rattle.paint.proofs.rows.lay_line.Statement.{statement}
 use Rattle.paint.proofs.rows.lay_line.Tie as tie

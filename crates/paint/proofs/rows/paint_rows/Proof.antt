@@ -10,8 +10,10 @@ use denote.Ref.{now}
 use Rattle.lists.specs.Tab.{each}
 use Rattle.words.specs.Fields.{widthOf, groundsOf}
 use Rattle.frames.specs.Scene.{Scene}
-use Rattle.paint.specs.Engine.Lines.{rowsByte, Holds, OfBand}
-use Rattle.paint.proofs.PartLaws.{length-lent}
+use Rattle.plan.specs.Engine.Plan.{OfBand}
+use Rattle.mix.specs.Pixel.{pixelLen}
+use Rattle.paint.specs.Engine.Rows.{mostPixels, rowsByte, Holds}
+use Rattle.plan.proofs.PartLaws.{length-lent}
 use Rattle.paint.proofs.RowsLaws.{rows-none, rows-lent, rows-all, rows-room}
 use Rattle.paint.proofs.rows.paint_rows.Statement.{statement}
 use Rattle.paint.proofs.rows.paint_rows.Tie as tie
@@ -20,7 +22,7 @@ abbrev Inv-loop : tie.InvT-loop
 Inv-loop out₀ w tables pictures fresh plan stride height ground indexes₀ row₀ y₀ out indexes row y =
     (y ≤ height)
     × ((s : Scene) (a b : ℕ) → Holds w tables pictures s → OfBand s a b plan → out ≡ each (rowsByte s a b fresh y) out₀)
-    × (length out ≡ length out₀) × (length indexes ≡ 4096) × (length row ≡ 16384)
+    × (length out ≡ length out₀) × (length indexes ≡ mostPixels) × (length row ≡ pixelLen * mostPixels)
 
 abbrev μ-loop : tie.MeasureT-loop
 μ-loop out₀ w tables pictures fresh plan stride height ground indexes₀ row₀ y₀ out indexes row y = height - y

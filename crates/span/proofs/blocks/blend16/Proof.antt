@@ -1,7 +1,7 @@
 -- `span::blocks::blend16` meets its contract: what is stored are the mixed words, with the high
 -- bytes of the second words for alphas. Assumes nothing.
 use borrow.Author.Needs.{needs}
-use Rattle.span.proofs.LaneLaws.{high-small}
+use Rattle.sixteen.proofs.LaneLaws.{high-small}
 use Rattle.span.proofs.OverParts.{alphas-own, mix-block}
 use Rattle.span.proofs.blocks.blend16.Statement.{statement}
 use Rattle.span.proofs.blocks.blend16.Tie as tie

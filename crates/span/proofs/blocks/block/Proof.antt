@@ -1,7 +1,7 @@
 -- `span::blocks::block` meets its contract: a block whose own alphas are all 0 or all 255 is what
 -- one alpha of 0 or 255 makes of it. Assumes nothing.
 use borrow.Author.Needs.{needs}
-use Rattle.span.proofs.LaneLaws.{alpha-all}
+use Rattle.sixteen.proofs.LaneLaws.{alpha-all}
 use Rattle.span.proofs.OverParts.{own-clear, own-copied}
 use Rattle.span.proofs.blocks.block.Statement.{statement}
 use Rattle.span.proofs.blocks.block.Tie as tie

@@ -1,7 +1,7 @@
 -- `span::blocks::flat16` meets its contract: what is stored are the mixed words, with one alpha.
 -- Assumes nothing.
 use borrow.Author.Needs.{needs}
-use Rattle.span.proofs.LaneLaws.{same-small}
+use Rattle.sixteen.proofs.LaneLaws.{same-small}
 use Rattle.span.proofs.OverParts.{alphas-one, mix-block}
 use Rattle.span.proofs.blocks.flat16.Statement.{statement}
 use Rattle.span.proofs.blocks.flat16.Tie as tie

@@ -1,7 +1,7 @@
 -- `span::grounds::lay16` meets its contract: what is stored are the words mixed over those of the
 -- pixel. Assumes nothing.
 use borrow.Author.Needs.{needs}
-use Rattle.span.proofs.LaneLaws.{high-small}
+use Rattle.sixteen.proofs.LaneLaws.{high-small}
 use Rattle.span.proofs.OverParts.{alphas-own}
 use Rattle.span.proofs.GroundLaws.{lay-mixed}
 use Rattle.span.proofs.grounds.lay16.Statement.{statement}

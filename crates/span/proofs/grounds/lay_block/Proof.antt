@@ -1,7 +1,7 @@
 -- `span::grounds::lay_block` meets its contract: a block whose own alphas are all 0 is the pixel under
 -- it, and one of 255 is copied, with the alpha of the pixel under it. Assumes nothing.
 use borrow.Author.Needs.{needs}
-use Rattle.span.proofs.LaneLaws.{alpha-all}
+use Rattle.sixteen.proofs.LaneLaws.{alpha-all}
 use Rattle.span.proofs.GroundLaws.{lay-clear, lay-copied}
 use Rattle.span.proofs.grounds.lay_block.Statement.{statement}
 use Rattle.span.proofs.grounds.lay_block.Tie as tie

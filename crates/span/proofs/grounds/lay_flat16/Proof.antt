@@ -1,7 +1,7 @@
 -- `span::grounds::lay_flat16` meets its contract: what is stored are the words mixed over those of the
 -- pixel, with one alpha. Assumes nothing.
 use borrow.Author.Needs.{needs}
-use Rattle.span.proofs.LaneLaws.{same-small}
+use Rattle.sixteen.proofs.LaneLaws.{same-small}
 use Rattle.span.proofs.OverParts.{alphas-one}
 use Rattle.span.proofs.GroundLaws.{lay-mixed}
 use Rattle.span.proofs.grounds.lay_flat16.Statement.{statement}

@@ -4,9 +4,10 @@ use mathlib.Core.Bool.{true}
 use Prim.Native.Nat.{_-_}
 use lib.ListN.{length}
 use borrow.Author.Needs.{needs}
-use Rattle.span.specs.Span.{solidByte}
-use Rattle.span.specs.Engine.Lanes.{Front, anew, layByte}
-use Rattle.span.proofs.PartLaws.{front-none}
+use Rattle.sixteen.specs.Engine.Lanes.{Front, anew}
+use Rattle.colours.specs.Rows.{solidByte}
+use Rattle.span.specs.Engine.Laid.{layByte}
+use Rattle.sixteen.proofs.PartLaws.{front-none}
 use Rattle.span.proofs.GroundLaws.{lay-turn}
 use Rattle.span.proofs.grounds.lay_flat_blocks.Statement.{statement}
 use Rattle.span.proofs.grounds.lay_flat_blocks.Tie as tie

@@ -4,9 +4,9 @@ use mathlib.Core.Bool.{true}
 use Prim.Native.Nat.{_-_}
 use lib.ListN.{length}
 use borrow.Author.Needs.{needs}
+use Rattle.sixteen.specs.Engine.Lanes.{Front}
 use Rattle.span.specs.Span.{overByte}
-use Rattle.span.specs.Engine.Lanes.{Front}
-use Rattle.span.proofs.PartLaws.{block-turn, front-none}
+use Rattle.sixteen.proofs.PartLaws.{block-turn, front-none}
 use Rattle.span.proofs.runs.flat_blocks.Statement.{statement}
 use Rattle.span.proofs.runs.flat_blocks.Tie as tie
 

@@ -4,9 +4,9 @@ use mathlib.Core.Bool.{true}
 use Prim.Native.Nat.{_-_}
 use lib.ListN.{length}
 use borrow.Author.Needs.{needs}
+use Rattle.sixteen.specs.Engine.Lanes.{Reach}
 use Rattle.span.specs.Span.{overByte}
-use Rattle.span.specs.Engine.Lanes.{Reach}
-use Rattle.span.proofs.PartLaws.{pixel-turn, reach-end, reach-none}
+use Rattle.sixteen.proofs.PartLaws.{pixel-turn, reach-end, reach-none}
 use Rattle.span.proofs.runs.flat_rest.Statement.{statement}
 use Rattle.span.proofs.runs.flat_rest.Tie as tie
 

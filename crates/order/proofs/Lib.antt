@@ -1,0 +1,3 @@
+-- The laws that the crates above cite, and those that the proofs here rest on. Assumes nothing.
+pub mod PackedLaws
+pub mod Unique

@@ -1,0 +1,12 @@
+-- No two outcomes meet a function's promise. `Post` is the function's own `ensures`, as the check reads it
+-- in `src/lib.rt`: of the arguments i, the answer a or b, and the arguments at exit, e or f. Assumes nothing.
+use mathlib.Core.Path.{_≡_}
+use Rattle.lists.proofs.Choice.{meet}
+use Rattle.order.proofs.order_of.Reads as order_of
+use Rattle.order.proofs.pictures_of.Reads as pictures_of
+
+pub order-of-unique : (κs i a b e f : _) → order_of.Post κs i a e → order_of.Post κs i b f → a ≡ b
+order-of-unique κs i a b e f p q = meet p q
+
+pub pictures-of-unique : (κs i a b e f : _) → pictures_of.Post κs i a e → pictures_of.Post κs i b f → a ≡ b
+pictures-of-unique κs i a b e f p q = meet p q

@@ -1,0 +1,108 @@
+// The enabled layers in the order of painting, rising depth and of one depth by their number; and where each
+// frame layer's picture begins among the pictures, and their total length. Functions of words alone.
+ghost use mathlib.Core.Path.{_≡_};
+ghost use Prim.Native.Nat.{_+_, _≤_, _<_};
+ghost use Rattle.words.specs.Order.{here, layersBelow, orderOf};
+ghost use Rattle.words.specs.Pictures.{pictureLen, pictureLenAt, picturesOf};
+ghost use Rattle.order.specs.Engine.Packed.{found, packed};
+use mix::PIXEL_LEN;
+use words::fields::Layer;
+use words::fields::layer_of;
+use words::pictures::Pictures;
+
+// The first `count` of `layers` are layer numbers; the rest is 0.
+pub struct Order {
+    pub layers: [usize; 8],
+    pub count: usize,
+}
+
+// Whether a layer is enabled and of depth d.
+fn is_here(l: Layer, d: usize) -> bool
+    ensures { λ r. ⌜ r ≡ here l d ⌝ }
+{
+    if l.on {
+        return (l.depth as usize) == d;
+    }
+    false
+}
+
+// Layer n behind those found so far, if it is one of depth d.
+fn with_layer(mut order: Order, w: &[u32; 52], d: usize, n: usize) -> Order
+    requires { ⌜ (d < 8) × (n < 8) × (order ≡ packed (found (now w) d n)) ⌝ }
+    ensures { λ r. ⌜ r ≡ packed (found (now (w .entry)) d (n + 1)) ⌝ }
+{
+    if is_here(layer_of(w, n), d) {
+        let at = order.count;
+        order.layers[at] = n;
+        order.count = at + 1;
+    }
+    order
+}
+
+// The layers of depth d behind those below it.
+fn with_depth(order: Order, w: &[u32; 52], d: usize) -> Order
+    requires { ⌜ (d < 8) × (order ≡ packed (layersBelow (now w) d)) ⌝ }
+    ensures { λ r. ⌜ r ≡ packed (layersBelow (now (w .entry)) (d + 1)) ⌝ }
+{
+    let mut found = order;
+    let mut n: usize = 0;
+    while n < 8 {
+        found = with_layer(found, w, d, n);
+        n += 1;
+    }
+    found
+}
+
+pub fn order_of(w: &[u32; 52]) -> Order
+    ensures { λ r. ⌜ r ≡ packed (orderOf (now (w .entry))) ⌝ }
+{
+    let mut found = Order {
+        layers: [0; 8],
+        count: 0,
+    };
+    let mut d: usize = 0;
+    while d < 8 {
+        found = with_depth(found, w, d);
+        d += 1;
+    }
+    found
+}
+
+// The bytes of a layer's picture.
+fn picture_len(l: Layer) -> usize
+    ensures { λ r. ⌜ r ≡ pictureLen l ⌝ }
+{
+    if !l.on {
+        return 0;
+    }
+    if l.graphics {
+        return 0;
+    }
+    PIXEL_LEN * ((l.width as usize) * (l.height as usize))
+}
+
+// They are at most 4 * 4095 * 4095, so that eight of them stay far below 2 ^ 32.
+fn picture_len_at(w: &[u32; 52], n: usize) -> usize
+    requires { ⌜ n < 8 ⌝ }
+    ensures { λ r. ⌜ (r ≡ pictureLenAt (now (w .entry)) n) × (r ≤ 67076100) ⌝ }
+{
+    picture_len(layer_of(w, n))
+}
+
+pub fn pictures_of(w: &[u32; 52]) -> Pictures
+    ensures { λ r. ⌜ r ≡ picturesOf (now (w .entry)) ⌝ }
+{
+    let mut starts: [usize; 8] = [0; 8];
+    let mut total: usize = 0;
+    let mut n: usize = 0;
+    while n < 8 {
+        let len = picture_len_at(w, n);
+        starts[n] = total;
+        total += len;
+        n += 1;
+    }
+    Pictures {
+        starts: starts,
+        total: total,
+    }
+}

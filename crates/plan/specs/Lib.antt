@@ -1,0 +1,2 @@
+-- What `src/` promises to `scanline` and `paint`. Assumes nothing.
+pub mod Engine

@@ -1,0 +1,56 @@
+-- The ground of a line, and the first layer with it. Assumes nothing.
+use mathlib.Core.Path.{_≡_, refl, ap}
+use mathlib.Core.Bool.{Bool, true, false, not}
+use mathlib.Core.List.{List, [], _∷_}
+use Prim.Native.Nat.{ℕ, zero, suc, _<_}
+use borrow.Author.Tests.{not-true, eqb-true, leb-true, ltb-true}
+use lib.Dec.{eqb, leb, ltb}
+use lib.ListN.{length}
+use Rattle.lists.specs.Choice.{both}
+use Rattle.lists.specs.Tab.{tab, each}
+use Rattle.lists.proofs.Choice.{both-left, both-right}
+use Rattle.lists.proofs.Tab.{each-id}
+use Rattle.words.specs.declared.fields.Ground.{Ground}
+use Rattle.colours.specs.Rows as rows
+use Rattle.plan.specs.declared.Step.{Step}
+use Rattle.scanline.specs.Engine.Lines.{OnRow, wholeLine, groundByte}
+
+pub ground-kept : (g : Ground) (out : List ℕ) → out ≡ each (groundByte g false) out
+unfolding groundByte
+ground-kept g out = each-id _ out (λ i p. refl)
+
+pub tab-each : (f : ℕ → ℕ) (l : List ℕ) → tab (length l) f ≡ each (λ i p. f i) l
+unfolding tab each
+tab-each f [] = refl
+tab-each f (p ∷ l) = ap (λ (y : List ℕ). f zero ∷ y) (tab-each (λ i. f (suc i)) l)
+
+pub ground-filled : (g : Ground) (out : List ℕ)
+    → tab (length out) (rows.solidByte (g .c0) (g .c1) (g .c2)) ≡ each (groundByte g true) out
+unfolding groundByte
+ground-filled g out = tab-each _ out
+
+-- ---- the first layer with it
+
+pub whole-line : (t : Step) (pixels y : ℕ) → wholeLine t pixels y ≡ true
+    → (t .layer .graphics ≡ false) × (t .wide ≡ pixels) × OnRow t y
+unfolding wholeLine
+whole-line t pixels y e =
+    let frame = both-left (not (t .layer .graphics)) _ e in
+    let rest = both-right (not (t .layer .graphics)) _ e in
+    let wide = both-left (eqb (t .wide) pixels) _ rest in
+    let row = both-right (eqb (t .wide) pixels) _ rest in (
+      not-true _ frame,
+      eqb-true _ _ wide,
+      record {
+        top = leb-true _ _ (both-left (leb (t .layer .y) y) _ row);
+        bottom = ltb-true _ _
+            (both-right (leb (t .layer .y) y) _ row);
+      },
+    )
+
+pub laid-first : (fresh : Bool) (count : ℕ) (t : Step) (pixels y : ℕ)
+    → both fresh (both (ltb 0 count) (wholeLine t pixels y)) ≡ true
+    → (fresh ≡ true) × (0 < count) × (wholeLine t pixels y ≡ true)
+laid-first fresh count t pixels y e =
+    let rest = both-right fresh (both (ltb 0 count) (wholeLine t pixels y)) e in
+    (both-left fresh _ e, ltb-true _ _ (both-left (ltb 0 count) _ rest), both-right (ltb 0 count) _ rest)

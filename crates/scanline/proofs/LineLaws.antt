@@ -1,0 +1,245 @@
+-- A run blended over its part of a line is the layer over that line. Assumes nothing.
+use mathlib.Core.Path.{_≡_, refl, sym, ap, _∙_}
+use mathlib.Core.Bool.{Bool, true, false}
+use mathlib.Core.Logic.{_⊎_, inl, inr, ⊎-elim}
+use mathlib.Core.List.{List, _++_}
+use Prim.Native.Nat.{ℕ, _+_, _-_, _*_, _/_, _%_, _≤_, _<_}
+use native.Mathlib.Numerals.{add-one}
+use native.Mathlib.Omega.{arith}
+use lib.Dec.{eqb}
+use lib.ListN.{length, getD, take, drop, take-append-drop, drop-of-length-le}
+use lib.Seq.{take-at, drop-cons}
+use Rattle.lists.specs.Choice.{pick}
+use Rattle.lists.specs.Tab.{each}
+use Rattle.lists.specs.Steps.{through}
+use Rattle.lists.proofs.Choice.{pick-cong}
+use Rattle.lists.proofs.Tab.{each-part, each-id, each-cong, each-cong-below, each-turn, each-then, getD-part}
+use Rattle.lists.proofs.Steps.{through-none, through-id, through-append, through-next}
+use Rattle.mix.specs.Blend.{blendOf}
+use Rattle.words.specs.declared.fields.Layer.{Layer}
+use Rattle.words.specs.Fields.{widthOf, layerOf}
+use Rattle.span.specs.Span.{overByte}
+use Rattle.plan.specs.declared.Step.{Step}
+use Rattle.words.specs.Order.{bandLayers}
+use Rattle.frames.specs.Scene.{Scene}
+use Rattle.frames.proofs.PixelLaws.{Covered, over-outside, over-inside}
+use Rattle.frames.specs.Pixel.{pictureAt, ownAt, fadedOf, alphaAt, overAt}
+use Rattle.frames.specs.Band.{bandBy}
+use Rattle.plan.specs.Engine.Plan.{leftEnd, wideOf, OfLayer}
+use Rattle.scanline.specs.Engine.Lines.{OnRow, rowStart, drawnRow, lineByte, lineTo, lineFrom, bandLine, Shows}
+use Rattle.scanline.specs.Engine.Lines.{Draws, OfLine}
+use Rattle.plan.proofs.PartLaws.{part-is}
+use Rattle.scanline.proofs.DrawLaws.{row-drawn}
+use Rattle.frames.proofs.BandLaws.{band-through}
+
+-- with each pixel of a run at its own alpha the one alpha is not looked at
+pub over-own : (run : List ℕ) (alpha : ℕ) (line : List ℕ)
+    → each (overByte run false 0) line ≡ each (overByte run false alpha) line
+unfolding overByte
+over-own run alpha line = each-cong _ _ line (λ i p. refl)
+
+-- ---- a line that the layer does not reach
+
+pub line-outside : (s : Scene) (y n : ℕ) (line : List ℕ) → ((x : ℕ) → Covered (layerOf (s .words) n) y x → ⊥)
+    → line ≡ each (lineByte s y n) line
+unfolding lineByte
+line-outside s y n line out = each-id _ line (λ i p. go (eqb (i % 4) 3) i p)
+  where
+    go : (t : Bool) (i p : ℕ) → pick t p (overAt s y (i / 4) (i % 4) n p) ≡ p
+    go true i p = refl
+    go false i p = over-outside s (i / 4) y (i % 4) n p (out (i / 4))
+
+-- ---- one that it reaches: the run holds the layer's pixels of that row
+
+module _ (s : Scene) (y n left wide : ℕ) (src : List ℕ)
+    (at-left : left ≡ leftEnd (widthOf (s .words)) (layerOf (s .words) n))
+    (as-wide : wide ≡ wideOf (widthOf (s .words)) (layerOf (s .words) n))
+    (top : layerOf (s .words) n .y ≤ y) (bottom : y < layerOf (s .words) n .y + layerOf (s .words) n .height)
+    (own : (u c : ℕ) → u < wide → c < 4 → getD src (4 * u + c) 0 ≡ ownAt s n (y - layerOf (s .words) n .y) u c) where
+  -- the alpha and the channel that the run gives at its pixel u
+  alpha-is : (u : ℕ) → u < wide
+      → alphaAt s n (y - layerOf (s .words) n .y) u
+      ≡ pick (layerOf (s .words) n .global) (fadedOf (s .frame) (layerOf (s .words) n)) (getD src (4 * u + 3) 0)
+  unfolding alphaAt
+  alpha-is u h =
+      ap (pick (layerOf (s .words) n .global) (fadedOf (s .frame) (layerOf (s .words) n)))
+      (sym (own u 3 h (omega arith)))
+
+  pixel-is : (u c p : ℕ) → u < wide → c < 4
+      → overAt s y (left + u) c n p
+      ≡ blendOf (pick (layerOf (s .words) n .global) (fadedOf (s .frame) (layerOf (s .words) n))
+      (getD src (4 * u + 3) 0)) (getD src (4 * u + c) 0) p
+  pixel-is u c p h hc =
+      let q : left + u - layerOf (s .words) n .x ≡ u = omega arith in
+      over-inside s (left + u) y c n p (record { left = omega arith; right = omega arith; top = top; bottom = bottom })
+      ∙ rw (q, alpha-is u h, own u c h hc)
+
+  byte-is : (i p : ℕ) → i < 4 * wide
+      → lineByte s y n (4 * left + i) p
+      ≡ overByte src (layerOf (s .words) n .global) (fadedOf (s .frame) (layerOf (s .words) n)) i p
+  unfolding lineByte overByte
+  byte-is i p h =
+      let q : (4 * left + i) % 4 ≡ i % 4 = omega arith in
+      let r : (4 * left + i) / 4 ≡ left + i / 4 = omega arith in
+      let z : 4 * (i / 4) + i % 4 ≡ i = omega arith in
+      rw (q, r)
+      (pick-cong (eqb (i % 4) 3) (λ t. refl)
+      (λ t. pixel-is (i / 4) (i % 4) p (omega arith) (omega arith)
+      ∙ ap (λ (j : ℕ). blendOf
+      (pick (layerOf (s .words) n .global) (fadedOf (s .frame) (layerOf (s .words) n)) (getD src (4 * (i / 4) + 3) 0))
+      (getD src j 0) p) z))
+
+  byte-outside : (i p : ℕ) → i < 4 * widthOf (s .words) → (i < 4 * left) ⊎ (4 * left + 4 * wide ≤ i)
+      → lineByte s y n i p ≡ p
+  unfolding lineByte
+  byte-outside i p h o = go (eqb (i % 4) 3)
+    where
+      go : (t : Bool) → pick t p (overAt s y (i / 4) (i % 4) n p) ≡ p
+      go true = refl
+      go false = over-outside s (i / 4) y (i % 4) n p (λ k. ⊎-elim (λ lt. beside k lt) (λ ge. behind k ge) o)
+        where
+          beside : Covered (layerOf (s .words) n) y (i / 4) → i < 4 * left → ⊥
+          beside k lt = omega (arith, k .left)
+
+          behind : Covered (layerOf (s .words) n) y (i / 4) → 4 * left + 4 * wide ≤ i → ⊥
+          behind k ge = omega (arith, k .right)
+
+  pub layer-over : (line part : List ℕ) → length line ≡ 4 * widthOf (s .words)
+      → part ≡ each (overByte src (layerOf (s .words) n .global) (fadedOf (s .frame) (layerOf (s .words) n)))
+      (take (4 * wide) (drop (4 * left) line))
+      → take (4 * left) line ++ (part ++ drop (4 * wide) (drop (4 * left) line)) ≡ each (lineByte s y n) line
+  layer-over line part long e =
+      each-part (lineByte s y n) _ line part (4 * left) (4 * wide) (omega arith) e byte-is
+      (λ i p lt. byte-outside i p (omega arith) (inl lt))
+      (λ i p ge lt. byte-outside i p (omega arith) (inr ge))
+
+  -- a layer that takes up the whole line
+  pub layer-whole : (line part : List ℕ) → length line ≡ 4 * widthOf (s .words) → 4 * wide ≡ length line
+      → part ≡ each (overByte src (layerOf (s .words) n .global) (fadedOf (s .frame) (layerOf (s .words) n))) line
+      → part ≡ each (lineByte s y n) line
+  layer-whole line part long whole e =
+      e ∙ each-cong-below _ _ line (λ i h.
+      let q : 4 * left + i ≡ i = omega arith in
+      sym (byte-is i (getD line i 0) (omega arith)) ∙ ap (λ (j : ℕ). lineByte s y n j (getD line i 0)) q)
+
+-- ---- the same of a step
+
+module _ (s : Scene) (y : ℕ) (t : Step) (m : OfLayer s t) where
+  -- ---- the run that the code blends is the layer's row
+
+  -- of a frame layer: a part of its picture, with the row's start in a variable
+  pub picture-own : (pictures : List ℕ) (from : ℕ) → Shows pictures s → from ≡ rowStart t y → t .layer .graphics ≡ false
+      → (u c : ℕ) → u < t .wide → c < 4
+      → getD (take (from + 4 * t .wide - from) (drop from pictures)) (4 * u + c) 0
+      ≡ ownAt s (t .number) (y - t .layer .y) u c
+  unfolding ownAt pictureAt
+  picture-own pictures from same e g u c h hc =
+      let f : layerOf (s .words) (t .number) .graphics ≡ false = rw (m .layer) at g in
+      let q : rowStart t y + (4 * u + c) ≡ t .start +
+      (4 * ((y - t .layer .y) * t .layer .width + u) + c) = omega arith in
+      rw (part-is pictures from (4 * t .wide), ← same, e)
+      (getD-part (s .pictures) _ (4 * t .wide) (4 * u + c) (omega arith)
+      ∙ ap (λ (i : ℕ). getD (s .pictures) i 0) q ∙ rw (f, ← (m .layer), m .start))
+
+  -- of a graphics layer: the row that was drawn, at the front of its room
+  pub graphics-own : (tables : List ℕ) (n pixels : ℕ) (row rest : List ℕ) → Draws tables s → t .layer .graphics ≡ true
+      → row ≡ drawnRow tables t (y - t .layer .y) pixels → pixels ≡ t .wide → length row ≡ n
+      → (u c : ℕ) → u < t .wide → c < 4
+      → getD (take n (row ++ rest)) (4 * u + c) 0 ≡ ownAt s (t .number) (y - t .layer .y) u c
+  unfolding ownAt
+  graphics-own tables n pixels row rest same g d q e u c h hc =
+      let f : layerOf (s .words) (t .number) .graphics ≡ true = rw (m .layer) at g in
+      rw (take-at row rest n e, f) (row-drawn s t m tables _ pixels row same d u c (omega arith) hc)
+
+  -- ---- such a run over its part of the line is the layer over the line
+
+  module _ (r : OnRow t y) (src : List ℕ)
+      (own : (u c : ℕ) → u < t .wide → c < 4 → getD src (4 * u + c) 0 ≡ ownAt s (t .number) (y - t .layer .y) u c) where
+    own-layer : (u c : ℕ) → u < t .wide → c < 4
+        → getD src (4 * u + c) 0 ≡ ownAt s (t .number) (y - layerOf (s .words) (t .number) .y) u c
+    own-layer u c h hc = own u c h hc ∙ ap (λ (l : Layer). ownAt s (t .number) (y - l .y) u c) (m .layer)
+
+    -- as the borrow checker writes the part
+    pub step-over : (line part : List ℕ) → OfLine s line
+        → part ≡ each (overByte src (t .layer .global) (t .alpha))
+        (take (4 * t .left + 4 * t .wide - 4 * t .left) (drop (4 * t .left) line))
+        → take (4 * t .left) line ++ (part ++ drop (4 * t .left + 4 * t .wide - 4 * t .left) (drop (4 * t .left) line))
+        ≡ each (lineByte s y (t .number)) line
+    step-over line part long e =
+        let q : 4 * t .left + 4 * t .wide - 4 * t .left ≡ 4 * t .wide = omega arith in
+        rw q
+        (layer-over s y (t .number) (t .left) (t .wide) src (m .left) (m .wide) (rw (m .layer) at (r .top))
+        (rw (m .layer) at (r .bottom))
+        own-layer line part long (rw (q, m .layer, m .alpha) at e))
+
+    -- where it takes up the whole line
+    pub step-whole : (line part : List ℕ) → OfLine s line → 4 * t .wide ≡ length line
+        → part ≡ each (overByte src (t .layer .global) (t .alpha)) line → part ≡ each (lineByte s y (t .number)) line
+    step-whole line part long whole e =
+        layer-whole s y (t .number) (t .left) (t .wide) src (m .left) (m .wide) (rw (m .layer) at (r .top))
+        (rw (m .layer) at (r .bottom))
+        own-layer line part long whole (rw (m .layer, m .alpha) at e)
+
+  -- ---- a line above or below the layer
+
+  pub step-above : (line : List ℕ) → y < t .layer .y → line ≡ each (lineByte s y (t .number)) line
+  step-above line h =
+      let a : y < layerOf (s .words) (t .number) .y = rw (m .layer) at h in
+      line-outside s y (t .number) line (λ x c. let z : ⊥ = omega (arith, c .top) in z)
+
+  pub step-below : (line : List ℕ) → t .layer .y + t .layer .height ≤ y → line ≡ each (lineByte s y (t .number)) line
+  step-below line h =
+      let a : layerOf (s .words) (t .number) .y + layerOf (s .words) (t .number) .height ≤ y = rw (m .layer) at h in
+      line-outside s y (t .number) line (λ x c. let z : ⊥ = omega (arith, c .bottom) in z)
+
+-- ---- all layers of a band
+
+pub line-band : (s : Scene) (a b y i p : ℕ) → a ≤ b → b ≤ 8
+    → through (λ n q. lineByte s y n i q) (bandLayers (s .words) a b) p ≡ bandLine s a b y i p
+unfolding lineByte bandLine
+line-band s a b y i p ab b8 = go (eqb (i % 4) 3)
+  where
+    go : (t : Bool) → through (λ n q. pick t q (overAt s y (i / 4) (i % 4) n q)) (bandLayers (s .words) a b) p
+        ≡ pick t p (bandBy (s .words) (overAt s y (i / 4) (i % 4)) a b p)
+    go true = through-id _ (bandLayers (s .words) a b) p (λ n q. refl)
+    go false = band-through (s .words) (overAt s y (i / 4) (i % 4)) a b p ab b8
+
+module _ (s : Scene) (y : ℕ) where
+  pub line-none : (l line : List ℕ) → line ≡ each (lineTo s y l 0) line
+  unfolding lineTo
+  line-none l line = each-id _ line (λ i p. through-none _ p)
+
+  pub line-next : (l line line′ line₀ : List ℕ) (k n : ℕ) → k < length l → n ≡ getD l k 0
+      → line ≡ each (lineTo s y l k) line₀ → line′ ≡ each (lineByte s y n) line
+      → line′ ≡ each (lineTo s y l (k + 1)) line₀
+  unfolding lineTo
+  line-next l line line′ line₀ k n h q e f =
+      each-then (lineTo s y l k) (lineByte s y n) _ line₀ e f
+      (λ i p. through-next (λ n q. lineByte s y n i q) l k p h
+      ∙ ap (λ (m : ℕ). lineByte s y m i (lineTo s y l k i p)) (sym q))
+
+  -- what is left of the layers, over the line, is the whole: one of them painted, and none left
+  pub line-left : (l line line′ : List ℕ) (k n : ℕ) {whole : List ℕ} → k < length l → n ≡ getD l k 0
+      → each (lineFrom s y l k) line ≡ whole → line′ ≡ each (lineByte s y n) line
+      → each (lineFrom s y l (k + 1)) line′ ≡ whole
+  unfolding lineFrom through
+  line-left l line line′ k n h q e f =
+      each-turn (lineFrom s y l (k + 1)) (lineByte s y n) (lineFrom s y l k) line f
+      (λ i p. rw (drop-cons l k 0 h, q, add-one)) e
+
+  pub line-done : (l line : List ℕ) (k : ℕ) {whole : List ℕ} → length l ≤ k → each (lineFrom s y l k) line ≡ whole
+      → line ≡ whole
+  unfolding lineFrom
+  line-done l line k h e = each-id _ line (λ i p. rw (drop-of-length-le l {i = k} h) (through-none _ p)) ∙ e
+
+  -- the first k and then the others
+  pub line-all : (a b k : ℕ) (line line′ line₀ : List ℕ) → a ≤ b → b ≤ 8
+      → line ≡ each (lineTo s y (bandLayers (s .words) a b) k) line₀
+      → line′ ≡ each (lineFrom s y (bandLayers (s .words) a b) k) line → line′ ≡ each (bandLine s a b y) line₀
+  unfolding lineTo lineFrom
+  line-all a b k line line′ line₀ ab b8 e f =
+      let l = bandLayers (s .words) a b in
+      each-then (lineTo s y l k) (lineFrom s y l k) _ line₀ e f
+      (λ i p. sym (line-band s a b y i p ab b8)
+      ∙ ap (λ (m : List ℕ). through (λ n q. lineByte s y n i q) m p) (sym (take-append-drop k l))
+      ∙ through-append (λ n q. lineByte s y n i q) (take k l) (drop k l) p)

@@ -1,0 +1,144 @@
+-- What the workers of a line ask and do, on the way to `Rattle.frames.specs.Band`. A worker asks for room in
+-- the buffers that it is lent, and is told of no scene: what it does is said of every scene that lends those
+-- buffers and whose layer the step is. No definition of the document rests on these. Assumes nothing.
+use Prim.Native.Nat.{ℕ, _+_, _-_, _*_, _/_, _%_, _<_, _≤_}
+use mathlib.Core.Path.{_≡_}
+use mathlib.Core.Bool.{Bool, false, not}
+use mathlib.Core.List.{List}
+use lib.ListN.{length, getD, take, drop}
+use lib.Dec.{eqb}
+use Rattle.lists.specs.Choice.{pick, both}
+use Rattle.lists.specs.Steps.{through}
+use Rattle.lists.specs.Tab.{tab, each}
+use Rattle.mix.specs.Pixel.{pixelLen, alphaPlace}
+use Rattle.words.specs.declared.fields.Ground.{Ground}
+use Rattle.words.specs.Fields.{widthOf}
+use Rattle.words.specs.Pictures.{picturesLen}
+use Rattle.tables.specs.Geometry.{tablesLen, listLen, stringsLen, fontLen}
+use Rattle.draw.specs.Drawing.{countOf, indexAt}
+use Rattle.colours.specs.Rows as rows
+use Rattle.frames.specs.Scene.{Scene}
+use Rattle.frames.specs.Pixel.{spans, overAt}
+use Rattle.frames.specs.Band.{pixelAt}
+use Rattle.plan.specs.declared.Step.{Step}
+use Rattle.plan.specs.declared.Plan.{Plan}
+use Rattle.plan.specs.Engine.Plan.{blankStep, partAt, OfLayer, OfLayers, OfFirst}
+
+-- ---- what a worker asks
+
+-- tables and pictures of the right lengths
+pub record Lent (s : Scene) : Type 0 where
+  pub tables : length (s .tables) ≡ tablesLen
+  pub pictures : length (s .pictures) ≡ picturesLen (s .words)
+
+-- the banks that a step draws from lie in the tables, and its list ends where it says
+pub record Banked (tables : List ℕ) (t : Step) : Type 0 where
+  pub list : t .list + listLen ≤ length tables
+  pub strings : t .strings + stringsLen ≤ length tables
+  pub font : t .font + fontLen ≤ length tables
+  pub count : t .end .count ≡ countOf (partAt tables (t .list) listLen)
+
+-- the part of a line that a step paints lies on it, where the line has so many bytes
+abbrev pub OnLine : Step → ℕ → Type 0
+OnLine t bytes = pixelLen * t .left + pixelLen * t .wide ≤ bytes
+
+-- the picture of a step, where it has one, lies among the pictures
+pub record Pictured (pictures : List ℕ) (t : Step) : Type 0 where
+  pub wide : t .wide ≤ t .layer .width
+  pub room : t .layer .graphics ≡ false
+      → t .start + pixelLen * (t .layer .width * t .layer .height) ≤ length pictures
+
+-- a step that fits a line of so many bytes
+pub record Fit (tables pictures : List ℕ) (bytes : ℕ) (t : Step) : Type 0 where
+  pub on : OnLine t bytes
+  pub banked : Banked tables t
+  pub pictured : Pictured pictures t
+
+-- a plan of such steps
+pub record AllFit (tables pictures : List ℕ) (bytes : ℕ) (p : Plan) : Type 0 where
+  pub few : p .count ≤ 8
+  pub fit : (j : ℕ) → j < p .count → Fit tables pictures bytes (getD (p .steps) j blankStep)
+
+-- room for the colour indexes of a line of so many bytes, and for its pixels
+pub record Scratch (bytes : ℕ) (indexes row : List ℕ) : Type 0 where
+  pub wide : bytes ≤ pixelLen * length indexes
+  pub long : bytes ≤ length row
+
+-- the layer reaches line y
+pub record OnRow (t : Step) (y : ℕ) : Type 0 where
+  pub top : t .layer .y ≤ y
+  pub bottom : y < t .layer .y + t .layer .height
+
+-- where line y of a frame layer begins among the pictures
+abbrev pub rowStart : Step → ℕ → ℕ
+rowStart t y = t .start + pixelLen * ((y - t .layer .y) * t .layer .width)
+
+-- the layer is a picture that takes up the whole of line y, which has so many pixels
+unfoldable pub wholeLine : Step → ℕ → ℕ → Bool
+wholeLine t pixels y =
+    both (not (t .layer .graphics)) (both (eqb (t .wide) pixels) (spans (t .layer .y) (t .layer .height) y))
+
+-- ---- bytes
+
+-- so many pixels of row v of a graphics layer: the colour indexes that its banks draw, through its colours
+unfoldable pub drawnRow : List ℕ → Step → ℕ → ℕ → List ℕ
+drawnRow tables t v pixels =
+    tab (pixelLen * pixels)
+    (rows.colourByte
+    (tab pixels
+    (indexAt (partAt tables (t .list) listLen) (partAt tables (t .strings) stringsLen)
+    (partAt tables (t .font) fontLen) v))
+    (t .palette))
+
+-- byte i of line y with layer n over it
+unfoldable pub lineByte : Scene → ℕ → ℕ → ℕ → ℕ → ℕ
+lineByte s y n i p = pick (eqb (i % pixelLen) alphaPlace) p (overAt s y (i / pixelLen) (i % pixelLen) n p)
+
+-- and with the first k of the layers l
+unfoldable pub lineTo : Scene → ℕ → List ℕ → ℕ → ℕ → ℕ → ℕ
+lineTo s y l k i p = through (λ n q. lineByte s y n i q) (take k l) p
+
+-- or with the others
+unfoldable pub lineFrom : Scene → ℕ → List ℕ → ℕ → ℕ → ℕ → ℕ
+lineFrom s y l k i p = through (λ n q. lineByte s y n i q) (drop k l) p
+
+-- and with the layers of a band
+unfoldable pub bandLine : Scene → ℕ → ℕ → ℕ → ℕ → ℕ → ℕ
+bandLine s a b y i p =
+    pick (eqb (i % pixelLen) alphaPlace) p (pixelAt s y (i / pixelLen) (i % pixelLen) a b p)
+
+-- byte i of a run as its ground has it: filled where the frame is a fresh one, else as it was
+unfoldable pub groundByte : Ground → Bool → ℕ → ℕ → ℕ
+groundByte g fresh i p = pick fresh (rows.solidByte (g .c0) (g .c1) (g .c2) i) p
+
+-- ---- what a worker does, in every such scene
+
+-- the scene has these pictures
+abbrev pub Shows : List ℕ → Scene → Type 0
+Shows pictures s = s .pictures ≡ pictures
+
+-- these tables
+abbrev pub Draws : List ℕ → Scene → Type 0
+Draws tables s = s .tables ≡ tables
+
+-- both
+abbrev pub Lends : List ℕ → List ℕ → Scene → Type 0
+Lends tables pictures s = Draws tables s × Shows pictures s
+
+-- the line is as long as the scene's are
+abbrev pub OfLine : Scene → List ℕ → Type 0
+OfLine s line = length line ≡ pixelLen * widthOf (s .words)
+
+-- line y afterwards has the step's layer over it
+pub record Over (Of : Scene → Type 0) (t : Step) (y : ℕ) (line line′ : List ℕ) : Type 0 where
+  pub over : (s : Scene) → Of s → OfLine s line → OfLayer s t → line′ ≡ each (lineByte s y (t .number)) line
+
+-- it has all layers of the plan over it but the first k
+pub record OverFrom (Of : Scene → Type 0) (p : Plan) (k y : ℕ) (line line′ : List ℕ) : Type 0 where
+  pub over : (s : Scene) (l : List ℕ) → Of s → OfLine s line → OfLayers s l p
+      → line′ ≡ each (lineFrom s y l k) line
+
+-- it has the first k of `count` layers over it, of which the step is the first
+pub record OverTo (Of : Scene → Type 0) (t : Step) (count k y : ℕ) (line line′ : List ℕ) : Type 0 where
+  pub over : (s : Scene) (l : List ℕ) → Of s → OfLine s line → (0 < count → OfFirst s l t)
+      → line′ ≡ each (lineTo s y l k) line

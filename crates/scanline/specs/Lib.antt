@@ -1,0 +1,2 @@
+-- What `src/` promises to `paint`. Assumes nothing.
+pub mod Engine

@@ -1,0 +1,113 @@
+// The ground of a line: the background where the frame is a fresh one, else what is there. Where the
+// lowest layer is a picture that takes up the whole line of a fresh frame, it is laid together with the
+// ground, so that the line is written once.
+ghost use mathlib.Core.Path.{_≡_};
+ghost use mathlib.Core.Bool.{true, false};
+ghost use Prim.Native.Nat.{_+_, _*_, _%_, _<_, _≤_};
+ghost use lib.Dec.{ltb};
+ghost use lib.ListN.{length};
+ghost use Rattle.lists.specs.Choice.{both};
+ghost use Rattle.lists.specs.Tab.{each};
+ghost use Rattle.mix.specs.Pixel.{pixelLen};
+ghost use Rattle.span.specs.Span.{overByte};
+ghost use Rattle.scanline.specs.Engine.Lines.{Pictured, OnRow, rowStart, groundByte, wholeLine, Shows, Over};
+ghost use Rattle.scanline.specs.Engine.Lines.{OverTo};
+use crate::line::row_start;
+use mix::PIXEL_LEN;
+use plan::Step;
+use words::fields::Ground;
+
+// The ground of a run.
+pub fn lay_ground(out: &mut [u8], fresh: bool, ground: Ground)
+    requires { ⌜ length (now out) % pixelLen ≡ 0 ⌝ }
+    ensures { λ _. ⌜ now (out .exit) ≡ each (groundByte ground fresh) (now (out .entry)) ⌝ }
+{
+    if !fresh {
+        return;
+    }
+    colours::fill(out, ground.c0, ground.c1, ground.c2);
+}
+
+// One run over the background: at the layer's alpha, or each pixel at its own.
+fn over_ground(out: &mut [u8], run: &[u8], global: bool, alpha: u8, ground: Ground)
+    requires { ⌜ (length (now out) ≡ length (now run)) × (length (now out) % pixelLen ≡ 0) ⌝ }
+    ensures { λ _. ⌜ now (out .exit) ≡ each (overByte (now (run .entry)) global alpha)
+        (each (groundByte ground true) (now (out .entry))) ⌝ }
+{
+    if global {
+        span::lay_flat(out, run, alpha, ground.c0, ground.c1, ground.c2);
+        return;
+    }
+    span::lay(out, run, ground.c0, ground.c1, ground.c2);
+}
+
+// Line y of a frame layer that takes up the whole line, over the background.
+fn lay_picture(line: &mut [u8], pictures: &[u8], ground: Ground, step: Step, y: usize)
+    requires { ⌜ OnRow step y × (pixelLen * step .wide ≡ length (now line)) × (step .layer .graphics ≡ false) ⌝ }
+    requires { ⌜ rowStart step y + pixelLen * step .wide ≤ length (now pictures) ⌝ }
+    ensures { λ _. ⌜ Over (Shows (now (pictures .entry))) step y
+        (each (groundByte ground true) (now (line .entry))) (now (line .exit)) ⌝ }
+{
+    let wide = PIXEL_LEN * step.wide;
+    let from = row_start(pictures, step, y);
+    over_ground(
+        line,
+        &pictures[from..from + wide],
+        step.layer.global,
+        step.alpha,
+        ground,
+    );
+}
+
+// Whether a layer is a picture that takes up the whole of line y, which has `pixels` pixels.
+fn is_whole_line(step: Step, pixels: usize, y: usize) -> bool
+    ensures { λ r. ⌜ r ≡ wholeLine step pixels y ⌝ }
+{
+    if step.layer.graphics {
+        return false;
+    }
+    if step.wide != pixels {
+        return false;
+    }
+    let top = step.layer.y as usize;
+    if y < top {
+        return false;
+    }
+    y < top + (step.layer.height as usize)
+}
+
+// Whether the first of `count` layers is laid together with the ground of line y.
+fn is_laid_first(fresh: bool, count: usize, step: Step, pixels: usize, y: usize) -> bool
+    ensures { λ r. ⌜ r ≡ both fresh (both (ltb 0 count) (wholeLine step pixels y)) ⌝ }
+{
+    if !fresh {
+        return false;
+    }
+    if count == 0 {
+        return false;
+    }
+    is_whole_line(step, pixels, y)
+}
+
+// The ground of line y, and with it the first of a plan's `count` layers where that takes up the whole line
+// of a fresh frame. Answers how many layers were laid, 0 or 1.
+pub fn lay_first(
+    line: &mut [u8],
+    pictures: &[u8],
+    fresh: bool,
+    ground: Ground,
+    step: Step,
+    count: usize,
+    y: usize,
+) -> usize
+    requires { ⌜ (length (now line) % pixelLen ≡ 0) × (0 < count → Pictured (now pictures) step) ⌝ }
+    ensures { λ r. ⌜ OverTo (Shows (now (pictures .entry))) step count r y
+        (each (groundByte ground fresh) (now (line .entry))) (now (line .exit)) ⌝ }
+{
+    if is_laid_first(fresh, count, step, line.len() / PIXEL_LEN, y) {
+        lay_picture(line, pictures, ground, step, y);
+        return 1;
+    }
+    lay_ground(line, fresh, ground);
+    0
+}

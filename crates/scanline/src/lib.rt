@@ -1,0 +1,3 @@
+// One line of a frame: its ground, then its layers. For `paint` alone.
+pub mod ground;
+pub mod line;

@@ -1,0 +1,3 @@
+-- The laws that proofs of this crate and of crates above cite. Assumes nothing.
+pub mod FormLaws
+pub mod StepLaws
