@@ -1,9 +1,5 @@
--- The laws that the crates above cite, and those that the proofs here rest on. Assumes nothing.
-mod RunLaws
-mod BitLaws
-mod BoxLaws
-mod TextLaws
-mod LineLaws
+-- The laws that the crates above cite, and those of the functions here. Assumes nothing.
+pub mod RunLaws
 pub mod IndexLaws
 pub mod Unique
 pub mod Figures

@@ -1,4 +1,5 @@
--- What `src/` promises; `Engine` is for the workers inside. Assumes nothing.
+-- What `src/` and the crates `boxes`, `text` and `pen` promise; `Engine` is for the workers inside. Assumes
+-- nothing.
 pub mod Instruction
 pub mod Box
 pub mod Text

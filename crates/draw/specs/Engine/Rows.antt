@@ -1,4 +1,4 @@
--- What the workers of `src/` do to a row, on the way to `specs/Box.antt` and `specs/Text.antt`. No
+-- What the workers of `src/` and `boxes` do to a row, on the way to `specs/Box.antt` and `specs/Text.antt`. No
 -- definition of the document rests on these. Assumes nothing.
 use Prim.Native.Nat.{ℕ, _*_}
 use mathlib.Core.Bool.{Bool}

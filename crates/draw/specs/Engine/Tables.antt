@@ -1,4 +1,4 @@
--- The three tables that a list is drawn from, as the workers of `src/` ask for them. No definition of the
+-- The three tables that a list is drawn from, as the workers of `text` and `pen` ask for them. No definition of the
 -- document rests on this. Assumes nothing.
 use mathlib.Core.Path.{_≡_}
 use Prim.Native.Nat.{ℕ}
