@@ -1,5 +1,5 @@
 /* Paintings for an emulator that logs what is executed: the subjects at the smaller size, then each
- * step of growth at a quarter of its width and height. */
+ * step of growth at a quarter of its width and height; and the calls of a kept display. */
 #define _XOPEN_SOURCE 700
 #include <stdio.h>
 #include <stdlib.h>
@@ -7,6 +7,7 @@
 #include <unistd.h>
 
 #include "growth.h"
+#include "kept.h"
 #include "report.h"
 #include "run.h"
 #include "subjects.h"
@@ -54,10 +55,26 @@ static void paint_growth(const struct growth *growth)
     }
 }
 
+/* Marks the second work of two, as with paintings. */
+static void work_marked(int work)
+{
+    struct kept *kept = new_kept(work);
+    dprintf(STDOUT_FILENO, "calls\t%s\t%d\n", WORK_NAME[work], CALLS);
+    for (int side = 0; side < SIDES; side++) {
+        do_work(kept, work, side);
+        mark("begin\n");
+        do_work(kept, work, side);
+        mark("end\n");
+    }
+    drop_kept(kept);
+}
+
 void paint_counted(void)
 {
     for (int i = 0; i < SUBJECTS; i++)
         paint_subject(&SUBJECT[i], &SIZE[SIZES - 1]);
     for (int i = 0; i < GROWTHS; i++)
         paint_growth(&GROWTH[i]);
+    for (int i = 0; i < WORKS; i++)
+        work_marked(i);
 }

@@ -16,11 +16,6 @@ struct box {
     uint32_t x0, x1, y0, y1;
 };
 
-static uint32_t word_at(const uint8_t *bytes)
-{
-    return bytes[0] | bytes[1] << 8 | bytes[2] << 16 | (uint32_t)bytes[3] << 24;
-}
-
 /* ---- boxes */
 
 /* As far as the plane goes. */

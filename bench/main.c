@@ -2,7 +2,7 @@
  *
  *     bench              everything
  *     bench --bytes      what needs no clock: the bytes and the stack
- *     bench --counted    paintings for an emulator that counts instructions */
+ *     bench --counted    paintings and calls for an emulator that counts instructions */
 #include <stdio.h>
 #include <string.h>
 
@@ -29,6 +29,7 @@ int main(int count, char **words)
     if (!is_bytes) {
         print_ratios();
         print_growth();
+        print_calls();
     }
     printf("Numbers that miss what is wanted: %d\n", misses());
     return 0;

@@ -14,9 +14,12 @@ void print_ratios(void);
 /* What doubling the pixels, the layers or the instructions costs. */
 void print_growth(void);
 
-/* Paints for an emulator that logs what is executed. Among the log stand a line for each row, its
- * table, its name and for ratios its pixels, with tabs between, and around each painting of the row
- * the lines "begin" and "end". */
+/* The time of a kept display's calls as a multiple of a plain struct's. */
+void print_calls(void);
+
+/* Paints and calls for an emulator that logs what is executed. Among the log stand a line for each
+ * row, its table, its name, for ratios its pixels and for calls their number, with tabs between,
+ * and around each painting and each side's calls of the row the lines "begin" and "end". */
 void paint_counted(void);
 
 /* A cell with a number and, where one is wanted, the most that it may be. */

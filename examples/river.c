@@ -6,6 +6,7 @@
 #include <stdio.h>
 #include <string.h>
 
+#include "files.h"
 #include "pictures.h"
 #include "registers.h"
 #include "spoonwing.h"
@@ -116,35 +117,6 @@ static void make_inputs(void)
     paint_bird(water + PIXEL * WATER_WIDTH * WATER_HEIGHT);
 }
 
-/* The name of each number that the entry answers. */
-static const char *answer_name(uint32_t answer)
-{
-#define NAMED(name) [name] = #name
-    static const char *const names[] = {
-        NAMED(SPOONWING_DONE),         NAMED(SPOONWING_BAD_IMAGE_LENGTH),
-        NAMED(SPOONWING_RESERVED_BIT), NAMED(SPOONWING_EMPTY_SCREEN),
-        NAMED(SPOONWING_EMPTY_LAYER),  NAMED(SPOONWING_OFF_SCREEN),
-        NAMED(SPOONWING_SAME_DEPTH),   NAMED(SPOONWING_BAD_OUTPUT_LENGTH),
-        NAMED(SPOONWING_BAD_TABLES_LENGTH), NAMED(SPOONWING_BAD_PICTURES_LENGTH),
-    };
-#undef NAMED
-    return names[answer];
-}
-
-/* Whether the bytes are written to DIR/NAME. */
-static int write_file(const char *folder, const char *name, const uint8_t *bytes, size_t length)
-{
-    char path[4096];
-    int fits = snprintf(path, sizeof path, "%s/%s", folder, name) < (int)sizeof path;
-    FILE *file = fits ? fopen(path, "wb") : NULL;
-    int is_written = file && fwrite(bytes, 1, length, file) == length;
-    if (file && fclose(file) != 0)
-        is_written = 0;
-    if (!is_written)
-        fprintf(stderr, "river: %s/%s is not written\n", folder, name);
-    return is_written;
-}
-
 static int write_inputs(const char *folder)
 {
     uint8_t frame[4];
@@ -154,15 +126,6 @@ static int write_inputs(const char *folder)
            write_file(folder, "tables.bin", tables, sizeof tables) &&
            write_file(folder, "pictures.bin", pictures, sizeof pictures) &&
            write_file(folder, "output.bin", output, sizeof output);
-}
-
-/* A PPM has no alpha byte; the output's is 255 in every pixel. */
-static int write_picture(void)
-{
-    printf("P6\n%d %d\n255\n", WIDTH, HEIGHT);
-    for (int i = 0; i < WIDTH * HEIGHT; i++)
-        fwrite(output + PIXEL * i, 1, PIXEL - 1, stdout);
-    return fflush(stdout) == 0 && !ferror(stdout);
 }
 
 int main(int count, char **words)
@@ -176,10 +139,11 @@ int main(int count, char **words)
     uint32_t answer = spoonwing_frame(image, sizeof image, FRAME, tables, sizeof tables,
                                       pictures, sizeof pictures, output, sizeof output);
     if (answer != SPOONWING_DONE) {
-        fprintf(stderr, "river: refused with %u, %s\n", (unsigned)answer, answer_name(answer));
+        fprintf(stderr, "river: refused with %u, %s\n", (unsigned)answer,
+                spoonwing_refusal(answer));
         return 1;
     }
     if (has_folder && !write_inputs(words[2]))
         return 1;
-    return write_picture() ? 0 : 1;
+    return write_picture(output, WIDTH, HEIGHT) ? 0 : 1;
 }

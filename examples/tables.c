@@ -16,6 +16,11 @@ void put_word(uint8_t *to, uint32_t word)
         to[i] = (uint8_t)(word >> (8 * i));
 }
 
+uint32_t word_at(const uint8_t *from)
+{
+    return from[0] | from[1] << 8 | from[2] << 16 | (uint32_t)from[3] << 24;
+}
+
 /* A row of a glyph: its leftmost pixel is the top bit. */
 static uint8_t glyph_row(const char *drawn)
 {

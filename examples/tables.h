@@ -36,8 +36,9 @@ struct bank {
 /* The scale as an instruction has it. */
 enum scale { SCALE_1, SCALE_2, SCALE_4, SCALE_8 };
 
-/* Stores a word as the display reads it, the lowest byte first. */
+/* Stores a word as the display reads it, the lowest byte first; and reads one. */
 void put_word(uint8_t *to, uint32_t word);
+uint32_t word_at(const uint8_t *from);
 
 /* Bank 0 of a controller, with the font in it. The tables are all zero at first, so the list ends
  * after the last instruction put (0 is END) and a string after its last character. */

@@ -1,7 +1,23 @@
-/* Spoonwing's one entry for a C host: paints a whole frame from a register image.
+/* Spoonwing for C hosts, in three parts:
  *
- * Link with target/staticlib/libhost.a, which `rt staticlib host` writes for x86-64; it needs
- * nothing beside it but memcpy and memset of the C library. */
+ *   a frame without a state    spoonwing_frame: register image in, frame out
+ *   keeping a display          spoonwing_display_...: make it, write registers, load tables, start
+ *                              frames, paint, read
+ *   storing a state            the 436 bytes that a kept display is
+ *
+ * Link with libspoonwing.a (`tools/install PREFIX` puts it, this header and a file for pkg-config
+ * in place). It is code for x86-64 and needs nothing beside it but memcpy and memset of the C
+ * library.
+ *
+ * What holds for every call
+ *   Buffers   Each pointer is followed by its length in bytes and must point to that many. Where
+ *             the length is 0 nothing is read or written through it, and it may be NULL. No buffer
+ *             has to be aligned.
+ *   Overlap   A buffer that a call may write must not overlap any other of that call. Those that
+ *             it only reads (const) may overlap each other.
+ *   Threads   Nothing is kept but what the buffers hold. Calls on several threads are safe while
+ *             none writes a buffer that another one uses.
+ *   Answers   0, or the number of the first refusal; `spoonwing_refusal` has a text for each. */
 #ifndef SPOONWING_H
 #define SPOONWING_H
 
@@ -12,50 +28,197 @@
 extern "C" {
 #endif
 
-/* The lengths that are fixed. */
+/* The lengths that are fixed, in bytes. */
 #define SPOONWING_IMAGE_LENGTH 208u
 #define SPOONWING_TABLES_LENGTH 29696u
+#define SPOONWING_STATE_LEN 436u
 
-/* The answers, refusals in the order in which they are asked. 9 and 10 are asked of each layer in turn,
- * from layer 0 to layer 7, before 11. */
+/* ---- answers
+ *
+ * Which call answers which, refusals in the order in which they are asked:
+ *
+ *   spoonwing_frame     16, 7, 8, 9 and 10, 11, 13, 6, 14
+ *   display_new         23
+ *   display_write       23, 1
+ *   display_select      23, 2
+ *   display_toggle      23
+ *   display_start       23, and with the update bit set 7, 8, 9 and 10, 11
+ *   display_put         23, 6, 3, 4, 5
+ *   display_fill        23, 12, 13
+ *   display_paint       23, 15, 12, 13, 6, 14
+ *   display_frame       23, 12, 13, 6, 14
+ *
+ * 9 and 10 are asked of each enabled layer in turn, from layer 0 to layer 7, before 11. Disabled
+ * layers are looked at for 7 only. */
 enum spoonwing_answer {
-    SPOONWING_DONE = 0,             /* the frame is painted */
-    SPOONWING_BAD_IMAGE_LENGTH = 16,    /* the register image is not 208 bytes */
-    SPOONWING_RESERVED_BIT = 7,     /* a reserved bit is set in a word */
-    SPOONWING_EMPTY_SCREEN = 8,     /* the output has no width or no height */
-    SPOONWING_EMPTY_LAYER = 9,      /* an enabled layer has no width or no height */
-    SPOONWING_OFF_SCREEN = 10,      /* an enabled layer does not lie on the screen */
-    SPOONWING_SAME_DEPTH = 11,      /* two enabled layers have one depth */
-    SPOONWING_BAD_OUTPUT_LENGTH = 13,   /* the output is not 4 * width * height bytes */
-    SPOONWING_BAD_TABLES_LENGTH = 6,    /* the tables are not 29,696 bytes */
-    SPOONWING_BAD_PICTURES_LENGTH = 14  /* the pictures have the wrong total length */
+    SPOONWING_DONE = 0,                  /* done */
+    SPOONWING_NO_REGISTER = 1,           /* the register is above 51 */
+    SPOONWING_NO_SELECTION = 2,          /* the selection is above 63 */
+    SPOONWING_NOT_SELECTED = 3,          /* nothing is selected */
+    SPOONWING_BANK_ACTIVE = 4,           /* the selected bank is an active one */
+    SPOONWING_BANK_FULL = 5,             /* the selected table is full */
+    SPOONWING_BAD_TABLES_LENGTH = 6,     /* the tables are not 29,696 bytes */
+    SPOONWING_RESERVED_BIT = 7,          /* a reserved bit is set in a word */
+    SPOONWING_EMPTY_SCREEN = 8,          /* the output has no width or no height */
+    SPOONWING_EMPTY_LAYER = 9,           /* an enabled layer has no width or no height */
+    SPOONWING_OFF_SCREEN = 10,           /* an enabled layer does not lie on the screen */
+    SPOONWING_SAME_DEPTH = 11,           /* two enabled layers have one depth */
+    SPOONWING_NO_SIZE = 12,              /* no start has given the screen a size yet */
+    SPOONWING_BAD_OUTPUT_LENGTH = 13,    /* the output is not 4 * width * height bytes */
+    SPOONWING_BAD_PICTURES_LENGTH = 14,  /* the pictures have the wrong total length */
+    SPOONWING_NO_BAND = 15,              /* the low end is above the high one, or that above 8 */
+    SPOONWING_BAD_IMAGE_LENGTH = 16,     /* the register image is not 208 bytes */
+    SPOONWING_BAD_STATE_LENGTH = 23      /* the state is not 436 bytes */
 };
+
+/* What is wrong and what to do, for an answer; a number that no call answers has a text too. */
+static inline const char *spoonwing_refusal(uint32_t answer)
+{
+    switch (answer) {
+    case SPOONWING_DONE: return "done: nothing is wrong";
+    case SPOONWING_NO_REGISTER: return "no such register: write to one of 0 to 51";
+    case SPOONWING_NO_SELECTION: return "no such table: select one of 0 to 63";
+    case SPOONWING_NOT_SELECTED: return "no table is selected: select one before the first put";
+    case SPOONWING_BANK_ACTIVE: return "the bank is being shown: load the other one, then start";
+    case SPOONWING_BANK_FULL: return "the table is full: put no more, or select it anew";
+    case SPOONWING_BAD_TABLES_LENGTH: return "wrong tables: lend all 29,696 bytes";
+    case SPOONWING_RESERVED_BIT: return "a reserved bit is set: clear all bits without a meaning";
+    case SPOONWING_EMPTY_SCREEN: return "the screen is empty: give register 1 a width and a height";
+    case SPOONWING_EMPTY_LAYER: return "a layer is empty: give it a size, or disable it";
+    case SPOONWING_OFF_SCREEN: return "a layer leaves the screen: move it, shrink it or disable it";
+    case SPOONWING_SAME_DEPTH: return "two layers have one depth: give each its own";
+    case SPOONWING_NO_SIZE: return "the screen has no size yet: start with the update bit set";
+    case SPOONWING_BAD_OUTPUT_LENGTH: return "wrong output: lend 4 * width * height bytes";
+    case SPOONWING_BAD_PICTURES_LENGTH: return "wrong pictures: lend all enabled frame layers'";
+    case SPOONWING_NO_BAND: return "no such band: paint from low to high with low <= high <= 8";
+    case SPOONWING_BAD_IMAGE_LENGTH: return "wrong register image: lend 208 bytes";
+    case SPOONWING_BAD_STATE_LENGTH: return "wrong state: lend 436 bytes";
+    default: return "unknown: no call answers this number";
+    }
+}
+
+/* ---- a frame without a state */
 
 /* Paints a whole frame: the background, and over it the enabled layers in rising depth.
  *
- * image     208 bytes: 52 register words, each little-endian. It counts as active once it passes the
- *           check of a start, whether its update bit is set or not. With the display bit clear the
- *           frame is background.
+ * image     208 bytes: 52 register words, each little-endian. It counts as active once it passes
+ *           the check of a start, whether its update bit is set or not. With the display bit clear
+ *           the frame is background.
  * frame     the frame number that fades go by, used as given.
  * tables    29,696 bytes: controller g at 3,712 g, its bank b at +1,856 b, in it instructions at 0,
  *           colours at 768, strings at 832, the font at 1,088 (by name: examples/tables.h).
- * pictures  the pictures of the enabled frame layers in rising layer number, each 4 * width * height
- *           bytes in raster order, without gaps.
+ * pictures  the pictures of the enabled frame layers in rising layer number, each
+ *           4 * width * height bytes in raster order, without gaps.
  * output    4 * width * height bytes, a pixel being channel 0, 1, 2, alpha. What it held does not
  *           count. The alpha bytes become 255.
  *
- * Each pointer is followed by its length in bytes. The answer is 0 or the number of the first refusal;
- * a refusal leaves every byte of the output as it was. Error bits of lists without END are dropped.
- *
- * The output must not overlap the other buffers; those are only read and may overlap each other. A
- * pointer must point to as many bytes as its length says. Where the length is 0 nothing is read or
- * written through it, and it may be NULL. Calls keep no state, so calls on several threads are safe
- * while no two share an output. */
+ * A refusal leaves every byte of the output as it was. Error bits of lists without END are
+ * dropped. */
 uint32_t spoonwing_frame(const uint8_t *image, size_t image_length,
                          uint32_t frame,
                          const uint8_t *tables, size_t tables_length,
                          const uint8_t *pictures, size_t pictures_length,
                          uint8_t *output, size_t output_length);
+
+/* ---- keeping a display
+ *
+ * A display is a state of 436 bytes that the host owns and lends to each call, beside tables of
+ * 29,696 bytes. examples/caption.c is a host that keeps one.
+ *
+ * Registers are written at any time and wait as pending ones; a start whose pending update bit is
+ * set makes them the active ones, all at once, and painting goes by those. Tables have two banks of
+ * each kind. Painting reads the active ones and puts go to the others; register 3 says which are
+ * active, so a start also turns banks over.
+ *
+ * A state of another length than 436 answers 23, and everything is unchanged. Other refusals leave
+ * every buffer and every part of the state as it was, but for these: a refused start has stepped
+ * the frame number, and a put to a full table has set an error bit. */
+
+/* Makes the state a fresh one, whatever it held: all registers and numbers 0, nothing selected.
+ * 436 zero bytes are a fresh state too. */
+uint32_t spoonwing_display_new(uint8_t *state, size_t state_length);
+
+/* Writes a pending register, all 32 bits. What is wrong in a value is told by the start.
+ *
+ *   0       bit 0 display on, bit 2 update enable, which stays until it is written
+ *   1       output width 11:0, height 27:16
+ *   2       background: channel 0 7:0, channel 1 15:8, channel 2 23:16
+ *   3       active banks, a bit for each controller: instructions 7:0, colours 15:8, strings 23:16,
+ *           font 31:24
+ *   4 + 6n  layer n: bit 0 enabled, bit 1 graphics, depth 10:8
+ *   5 + 6n  bit 31 global alpha, its value 7:0
+ *   6 + 6n  x 11:0, y 27:16
+ *   7 + 6n  width 11:0, height 27:16
+ *   8 + 6n  the frame at which the fade starts
+ *   9 + 6n  fade length 15:0, fade target 23:16 */
+uint32_t spoonwing_display_write(uint8_t *state, size_t state_length,
+                                 uint32_t register_number, uint32_t value);
+
+/* Selects the table for the next puts, and its first byte as their place: bits 5:3 controller,
+ * which is the layer's number, bits 2:1 kind (0 instructions, 1 colours, 2 strings, 3 font), bit 0
+ * bank. */
+uint32_t spoonwing_display_select(uint8_t *state, size_t state_length, uint32_t selection);
+
+/* Stores one byte at the place in the selected table, and moves the place by one. Refused with 4
+ * while the active register 3 names the selected bank. With 5, at the table's end, error bit
+ * 4 * controller + 1 is set and the place stays; all other refusals leave all unchanged. */
+uint32_t spoonwing_display_put(uint8_t *state, size_t state_length,
+                               uint8_t *tables, size_t tables_length, uint8_t byte);
+
+/* Starts a frame: the frame number goes up by one, past 2^32 - 1 to 0. If the pending update bit is
+ * set, the pending registers are checked, and become the active ones if they pass. Where they do
+ * not, the active ones stay and painting goes on by them. */
+uint32_t spoonwing_display_start(uint8_t *state, size_t state_length);
+
+/* Writes the background to every pixel, and 255 to its alpha; whether the display is on or not. */
+uint32_t spoonwing_display_fill(uint8_t *state, size_t state_length,
+                                uint8_t *output, size_t output_length);
+
+/* Blends the enabled layers whose depth is at least `low` and below `high`, in rising depth, over
+ * what the output holds; its alpha bytes stay. Tables and pictures are those of spoonwing_frame,
+ * the pictures of all enabled frame layers whatever the band. A graphics layer n of the band whose
+ * list has no END sets error bit 4n. With the display off a band changes nothing. */
+uint32_t spoonwing_display_paint(uint8_t *state, size_t state_length,
+                                 uint32_t low, uint32_t high,
+                                 const uint8_t *tables, size_t tables_length,
+                                 const uint8_t *pictures, size_t pictures_length,
+                                 uint8_t *output, size_t output_length);
+
+/* A fill and the band from 0 to 8, or nothing of either where it is refused. */
+uint32_t spoonwing_display_frame(uint8_t *state, size_t state_length,
+                                 const uint8_t *tables, size_t tables_length,
+                                 const uint8_t *pictures, size_t pictures_length,
+                                 uint8_t *output, size_t output_length);
+
+/* Turns the error word's bits over where `bits` has a 1: a set one is cleared and a clear one is
+ * set, so the word itself as `bits` clears it. */
+uint32_t spoonwing_display_toggle(uint8_t *state, size_t state_length, uint32_t bits);
+
+/* Reads. In the error word bit 4n says that a list of layer n without END was painted, and bit
+ * 4g + 1 that a table of controller g was full at a put; bits stay until they are toggled. The size
+ * is that of the active registers, and 0 before the first start that passes. Of a state that is not
+ * 436 bytes each read gives 0. */
+uint32_t spoonwing_display_error_word(const uint8_t *state, size_t state_length);
+uint32_t spoonwing_display_frame_number(const uint8_t *state, size_t state_length);
+uint32_t spoonwing_display_output_width(const uint8_t *state, size_t state_length);
+uint32_t spoonwing_display_output_height(const uint8_t *state, size_t state_length);
+
+/* ---- storing a state
+ *
+ * The bytes are all that a state is: they may be copied, compared, kept in a file and lent again on
+ * another machine. They are 109 little-endian words of 32 bits:
+ *
+ *     0   pending registers 0 to 51
+ *   208   active registers 0 to 51
+ *   416   frame number
+ *   420   error word
+ *   424   0 where nothing is selected; else something is
+ *   428   selection
+ *   432   place
+ *
+ * Any 436 bytes stand for some state, and every call is safe on them, also where no call would have
+ * made them: a layer is painted where it lies on the screen, and of layers of one depth the one of
+ * greater number lies on top. A call writes 0 or 1 at 424, also when it is refused. */
 
 #ifdef __cplusplus
 }

@@ -20,19 +20,60 @@ need() {
     command -v "$1" >/dev/null || { $apt update && $apt install -y "${@:2}"; }
 }
 
-# compiler: the name of a C compiler for x86-64, which is got where it is missing.
+# compiler [c++]: the name of a C compiler for x86-64, or of a C++ one, which is got where it is
+# missing.
 compiler() {
     local cc=gcc packages="gcc libc6-dev"
-    is_x86 || cc=x86_64-linux-gnu-gcc packages="gcc-x86-64-linux-gnu libc6-dev-amd64-cross"
+    if [ "${1:-}" = c++ ]; then cc=g++ packages="g++"; fi
+    if ! is_x86; then
+        packages="$cc-x86-64-linux-gnu libc6-dev-amd64-cross" cc=x86_64-linux-gnu-$cc
+    fi
     need "$cc" $packages >&2
     echo "$cc"
 }
 
-# link_host PROGRAM SOURCE..: C sources with the entry's archive, which is proved and built first.
+# The archive that C programs are linked with.
+archive=$top/target/staticlib/libspoonwing.a
+
+# Whether the archive is there and no file of the crates is newer.
+has_archive() {
+    [ -e "$archive" ] && [ -z "$(find "$top/crates" "$top/crates.txt" -newer "$archive" -print -quit)" ]
+}
+
+# spoonwing_archive: proves and builds the archives of the frame entry and of the display's calls,
+# and joins them in that one; rt proves an archive's crate anew each time, so not where nothing has
+# changed. ADDLIB takes each member as it is, so that members of one name stay two. The kit's llvm-ar
+# knows x86-64 objects on every processor.
+spoonwing_archive() {
+    if has_archive; then return; fi
+    rm -f "$archive"
+    (cd "$top" && rt staticlib host && rt staticlib display)
+    (cd "$(dirname "$archive")" && "$(kit)/bin/llvm-ar" -M) <<'SCRIPT'
+CREATE libspoonwing.a
+ADDLIB libhost.a
+ADDLIB libdisplay.a
+SAVE
+END
+SCRIPT
+}
+
+# What every C program here is compiled with.
+c_flags="-std=c99 -O2 -Wall -Wextra -Wpedantic -Werror -static"
+
+# link_host PROGRAM SOURCE..: C sources with the archive, which is proved and built first.
 link_host() {
     local cc
     cc=$(compiler)
-    (cd "$top" && rt staticlib host)
-    "$cc" -std=c99 -O2 -Wall -Wextra -Werror -static -I "$top/include" -o "$1" "${@:2}" \
-        "$top/target/staticlib/libhost.a"
+    spoonwing_archive
+    "$cc" $c_flags -I "$top/include" -o "$1" "${@:2}" "$archive"
+}
+
+# c_program NAME [build]: builds tests/second/NAME.c, or runs what was built in place of this shell.
+c_program() {
+    local program=$top/target/$1
+    if [ "${2:-}" = build ]; then
+        link_host "$program" "$top/tests/second/$1.c"
+    else
+        become "$program"
+    fi
 }

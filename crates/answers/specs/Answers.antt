@@ -68,3 +68,7 @@ noBand = 15
 -- "host entry: register image not 208 bytes"
 abbrev pub imageLength : ℕ
 imageLength = 16
+
+-- 23, past the numbers of 01 and 02: a door's lent state not 436 bytes
+abbrev pub stateLength : ℕ
+stateLength = 23

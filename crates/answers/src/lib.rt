@@ -54,6 +54,9 @@ pub const NO_BAND: u8 = 15;
 // Host entry: the register image is not 208 bytes.
 pub const IMAGE_LENGTH: u8 = 16;
 
+// Doors: the lent state is not 436 bytes. A number of our own, past those of 02.
+pub const STATE_LENGTH: u8 = 23;
+
 // Of two refusals the earlier.
 pub fn or_else(first: u8, second: u8) -> u8
     ensures { λ r. ⌜ r ≡ orElse first second ⌝ }

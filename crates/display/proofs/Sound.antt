@@ -32,6 +32,16 @@ pub fresh-sound : Sound fresh
 fresh-sound =
     record { pending = refl; active = refl; accepted = inl refl; selection = omega arith; place = omega arith }
 
+-- a byte is stored below the table's end alone
+pub below-end : (d : Display) (tables : List ℕ) → putAnswer d tables ≡ done
+    → d .selection .place < endOf (d .selection .number)
+unfolding putAnswer
+below-end d tables e =
+    let p = orElse-right (pick (eqb (length tables) tablesLen) done tablesLength) _ e in
+    let q = orElse-right (pick (d .selection .made) done notSelected) _ p in
+    let r = orElse-right (pick (namedBy (d .active) (d .selection .number)) bankActive done) _ q in
+    ltb-true _ _ (lets-through (ltb (d .selection .place) (endOf (d .selection .number))) 4 r)
+
 module _ (d : Display) (s : Sound d) where
   pub write-sound : (register value : ℕ) → Sound (writeOf d register value .state)
   write-sound register value =
@@ -95,20 +105,11 @@ module _ (d : Display) (s : Sound d) where
       (λ e. stepped-sound))
       (λ u. stepped-sound)
 
-  -- a byte is stored below the table's end alone
-  below-end : (tables : List ℕ) → putAnswer d tables ≡ done → d .selection .place < endOf (d .selection .number)
-  unfolding putAnswer
-  below-end tables e =
-      let p = orElse-right (pick (eqb (length tables) tablesLen) done tablesLength) _ e in
-      let q = orElse-right (pick (d .selection .made) done notSelected) _ p in
-      let r = orElse-right (pick (namedBy (d .active) (d .selection .number)) bankActive done) _ q in
-      ltb-true _ _ (lets-through (ltb (d .selection .place) (endOf (d .selection .number))) 4 r)
-
   pub put-sound : (tables : List ℕ) → Sound (putOf d tables .state)
   unfolding putOf putState
   put-sound tables =
       choose-keeps Sound (eqb (putAnswer d tables) done) _ _
-      (λ e. let h : d .selection .place < endOf (d .selection .number) = below-end tables (eqb-true _ _ e) in
+      (λ e. let h : d .selection .place < endOf (d .selection .number) = below-end d tables (eqb-true _ _ e) in
       record {
         pending = s .pending;
         active = s .active;

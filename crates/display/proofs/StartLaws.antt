@@ -7,15 +7,15 @@ use Rattle.answers.specs.Answers.{done}
 use Rattle.words.specs.Fields.{updateOf}
 use Rattle.words.specs.Check.{checkOf}
 use Rattle.display.specs.declared.Display.{Display}
-use Rattle.display.specs.State.{toldAt, withActive, startOf}
+use Rattle.display.specs.State.{told, withFrame, withActive, startOf}
 
 module _ (d : Display) (next : ℕ) (step : next ≡ (d .frame + 1) % 2 ^ 32) where
-  pub start-idle : updateOf (d .pending) ≡ false → toldAt d next done ≡ startOf d
+  pub start-idle : updateOf (d .pending) ≡ false → told (withFrame d next) done ≡ startOf d
   start-idle u = rw (step, u)
 
   module _ (answer : ℕ) (u : updateOf (d .pending) ≡ true) (e : answer ≡ checkOf (d .pending)) where
-    pub start-refused : (answer ≡ done → ⊥) → toldAt d next answer ≡ startOf d
+    pub start-refused : (answer ≡ done → ⊥) → told (withFrame d next) answer ≡ startOf d
     start-refused ne = rw (step, u, ← e, ne-eqb _ _ ne)
 
-    pub start-taken : answer ≡ done → toldAt (withActive d (d .pending)) next done ≡ startOf d
+    pub start-taken : answer ≡ done → told (withFrame (withActive d (d .pending)) next) done ≡ startOf d
     start-taken q = rw (step, u, ← e, eq-eqb _ _ q)

@@ -62,10 +62,6 @@ withPlace d place = withSelection d (selectionOf (d .selection .made) (d .select
 abbrev pub told : Display → ℕ → Told
 told d answer = record { state = d; answer = answer }
 
--- a state at a frame number, and an answer
-abbrev pub toldAt : Display → ℕ → ℕ → Told
-toldAt d frame answer = told (withFrame d frame) answer
-
 -- ---- write, select, toggle
 
 -- "A write changes the pending word."; 1, "register above 51": "all unchanged"

@@ -2,7 +2,7 @@
 // a refusal leaves what the answer's row in `answers` says.
 ghost use mathlib.Core.Path.{_≡_};
 ghost use Rattle.words.specs.Fields.{widthOf, heightOf};
-ghost use Rattle.display.specs.State.{fresh, toldAt, writeOf, selectOf, toggleOf, startOf};
+ghost use Rattle.display.specs.State.{fresh, told, withFrame, writeOf, selectOf, toggleOf, startOf};
 ghost use Rattle.display.specs.Put.{putOf, putTables};
 ghost use Rattle.display.specs.Paint.{fillTold, fillBytes, paintTold, paintBytes, frameTold, frameBytes};
 use answers::BANK_ACTIVE;
@@ -21,6 +21,8 @@ use tables::is_named;
 use words::fields::is_update;
 use words::fields::screen_height;
 use words::fields::screen_width;
+
+pub mod doors;
 
 const REGISTERS: u32 = 52;
 
@@ -50,7 +52,7 @@ pub struct Told {
 
 // The state at a frame number, and an answer.
 fn at_frame(mut state: Display, frame: u32, answer: u8) -> Told
-    ensures { λ r. ⌜ r ≡ toldAt state frame answer ⌝ }
+    ensures { λ r. ⌜ r ≡ told (withFrame state frame) answer ⌝ }
 {
     state.frame = frame;
     Told {

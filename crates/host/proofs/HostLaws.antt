@@ -2,15 +2,14 @@
 use mathlib.Core.Path.{_≡_, refl, sym, ap, _∙_}
 use mathlib.Core.Bool.{Bool, true, false}
 use mathlib.Core.List.{List}
-use Prim.Native.Nat.{ℕ, _≤_}
+use Prim.Native.Nat.{ℕ}
 use native.Mathlib.Omega.{arith}
 use borrow.Author.Tests.{eq-eqb, ne-eqb}
 use lib.Dec.{eqb}
-use lib.ListN.{length, replicate}
+use lib.ListN.{length}
 use Rattle.lists.specs.Choice.{pick, either, orElse}
 use Rattle.lists.specs.Runs.{firstOf}
 use Rattle.lists.proofs.Choice.{orElse-left, orElse-right}
-use Rattle.lists.proofs.Upto.{Upto, upto-none, upto-done}
 use Rattle.answers.specs.Answers.{done, emptyScreen, noSize, imageLength}
 use Rattle.words.specs.Fields.{widthOf, heightOf}
 use Rattle.words.specs.Check.{reservedAt, screenOf, checkOf}
@@ -18,17 +17,7 @@ use Rattle.paint.specs.declared.Painted.{Painted}
 use Rattle.paint.specs.Painted.{answered}
 use Rattle.frames.specs.Frame.{sizeRefusal, outputRefusal, tablesRefusal, picturesRefusal, paintRefusal, refusalOf}
 use Rattle.frames.specs.Frame.{frameAfter}
-use Rattle.host.specs.Host.{imageWord, wordsOf, sceneIn, hostAnswer, hostOutput}
-
--- ---- the words
-
-pub words-none : (image : List ℕ) → Upto (replicate 52 0) (replicate 52 0) (imageWord image) 0
-words-none image = upto-none (replicate 52 0) (imageWord image)
-
-pub words-all : (image words : List ℕ) (i : ℕ) → i ≤ 52 → 52 ≤ i → Upto words (replicate 52 0) (imageWord image) i
-    → words ≡ wordsOf image
-unfolding wordsOf
-words-all image words i p q u = upto-done u (omega arith)
+use Rattle.host.specs.Host.{wordsOf, sceneIn, hostAnswer, hostOutput}
 
 -- ---- the cases
 

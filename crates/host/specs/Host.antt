@@ -1,24 +1,19 @@
 -- The entry for a C host: 01 "Sheet program and host entry". Assumes nothing.
-use Prim.Native.Nat.{ℕ, _*_}
+use Prim.Native.Nat.{ℕ}
 use mathlib.Core.List.{List}
 use lib.ListN.{length}
 use lib.Dec.{eqb}
 use Rattle.lists.specs.Choice.{pick, choose, orElse}
-use Rattle.lists.specs.Little.{littleAt}
-use Rattle.lists.specs.Tab.{tab}
 use Rattle.answers.specs.Answers.{done, imageLength}
 use Rattle.words.specs.Check.{checkOf}
+use Rattle.words.specs.Image.{wordsFrom}
 use Rattle.frames.specs.Scene.{Scene, sceneOf}
 use Rattle.frames.specs.Frame.{refusalOf, frameOf}
 
 -- "The C host calls one exported entry with a 208-byte register image (52 little-endian words), frame
--- number, tables, pictures, output."
-abbrev pub imageWord : List ℕ → ℕ → ℕ
-imageWord image i = littleAt image (4 * i)
-
--- the words of an image, all 52
-unfoldable pub wordsOf : List ℕ → List ℕ
-wordsOf image = tab 52 (imageWord image)
+-- number, tables, pictures, output.": the words of an image
+abbrev pub wordsOf : List ℕ → List ℕ
+wordsOf image = wordsFrom image 0
 
 -- what it paints from: the image's words for the active ones, and the frame number as given
 abbrev pub sceneIn : List ℕ → ℕ → List ℕ → List ℕ → Scene

@@ -1,27 +1,11 @@
 // The one entry for a C host: a whole frame from a register image, with no state between calls.
 ghost use mathlib.Core.Path.{_≡_};
-ghost use lib.ListN.{length};
-ghost use Rattle.host.specs.Host.{wordsOf, hostAnswer, hostOutput};
+ghost use Rattle.host.specs.Host.{hostAnswer, hostOutput};
 use answers::DONE;
 use answers::IMAGE_LENGTH;
-use numbers::word;
 use starts::refusal_of;
-
-// 52 words of four bytes.
-const IMAGE_LEN: usize = 208;
-
-fn words_of(image: &[u8]) -> [u32; 52]
-    requires { ⌜ length (now image) ≡ 208 ⌝ }
-    ensures { λ r. ⌜ r ≡ wordsOf (now (image .entry)) ⌝ }
-{
-    let mut words: [u32; 52] = [0; 52];
-    let mut i: usize = 0;
-    while i < 52 {
-        words[i] = word(image, 4 * i) as u32;
-        i += 1;
-    }
-    words
-}
+use words::image::IMAGE_LEN;
+use words::image::words_at;
 
 // Paints a whole frame of the image's words at a frame number. Answers 0, or the first of 16, 7, 8, 9
 // and 10 of each layer, 11, 13, 6, 14; a refusal leaves `output`. Error bits are dropped.
@@ -41,7 +25,7 @@ pub extern "C" fn spoonwing_frame(
     if image.len() != IMAGE_LEN {
         return IMAGE_LENGTH as u32;
     }
-    let words = words_of(image);
+    let words = words_at(image, 0);
     let refusal = refusal_of(&words);
     if refusal != DONE {
         return refusal as u32;

@@ -38,7 +38,7 @@ use Rattle.laws.proofs.Small as small
 apart : {A : Type 0} (f : A → ℕ) {x y : A} → (f x ≡ f y → ⊥) → x ≡ y → ⊥
 apart f ne e = ne (ap f e)
 
-differ : (k : ℕ) {x y : List ℕ} → (getD x k 0 ≡ getD y k 0 → ⊥) → x ≡ y → ⊥
+pub differ : (k : ℕ) {x y : List ℕ} → (getD x k 0 ≡ getD y k 0 → ⊥) → x ≡ y → ⊥
 differ k = apart (λ (l : List ℕ). getD l k 0)
 
 -- ---- "one that turns everything down"
@@ -96,7 +96,7 @@ not-both : (k : ℕ) {o x y : List ℕ} → (getD x k 0 ≡ getD y k 0 → ⊥) 
 not-both k ne p q = differ k ne (sym p ∙ q)
 
 -- of the white and the clear pictures
-one-frame : {o x y : List ℕ} → x ≡ 255 ∷ 255 ∷ 255 ∷ 255 ∷ [] → y ≡ 100 ∷ 100 ∷ 100 ∷ 255 ∷ [] → o ≡ x → o ≡ y → ⊥
+pub one-frame : {o x y : List ℕ} → x ≡ 255 ∷ 255 ∷ 255 ∷ 255 ∷ [] → y ≡ 100 ∷ 100 ∷ 100 ∷ 255 ∷ [] → o ≡ x → o ≡ y → ⊥
 one-frame white clear p q = not-both 0 (λ (z : 255 ≡ 100). omega arith) (p ∙ white) (q ∙ clear)
 
 one-text : (n : ℕ) {out : List ℕ} → out ≡ printed n white → out ≡ printed n clear → ⊥
@@ -230,7 +230,7 @@ breaks rule is wrong text wrong-text =
     }
 
 -- the lowest layer alone: it is the dark one
-lowest-frame : frameBy lowest white ≡ 10 ∷ 20 ∷ 30 ∷ 255 ∷ []
+pub lowest-frame : frameBy lowest white ≡ 10 ∷ 20 ∷ 30 ∷ 255 ∷ []
 unfolding small.frameOpen bandLayers orderOf layersBelow layersAt keep through
 lowest-frame = refl
 
@@ -245,7 +245,7 @@ lowest-breaks =
     (λ n. differ 18 (λ (z : 48 ≡ 70). omega arith))
 
 -- divided by 256: white is 254
-by256-frame : frameBy by256 white ≡ 254 ∷ 254 ∷ 254 ∷ 255 ∷ []
+pub by256-frame : frameBy by256 white ≡ 254 ∷ 254 ∷ 254 ∷ 255 ∷ []
 unfolding small.frameOpen
 by256-frame = refl
 
@@ -260,7 +260,7 @@ by256-breaks =
     (λ n. differ 19 (λ (z : 69 ≡ 70). omega arith))
 
 -- layer number for depth: the dark layer lies on top
-numbered-frame : frameBy numbered white ≡ 10 ∷ 20 ∷ 30 ∷ 255 ∷ []
+pub numbered-frame : frameBy numbered white ≡ 10 ∷ 20 ∷ 30 ∷ 255 ∷ []
 unfolding small.frameOpen
 numbered-frame = refl
 
@@ -281,7 +281,7 @@ module _ (last : ℕ → ℕ → ℕ → ℕ) where
   abbrev rule : Rule
   rule = groundLast last
 
-  same-frame : frameBy rule bright ≡ frameBy rule dim
+  pub same-frame : frameBy rule bright ≡ frameBy rule dim
   unfolding small.frameOpen
   same-frame = refl
 
@@ -294,7 +294,8 @@ module _ (last : ℕ → ℕ → ℕ → ℕ) where
   of-host pictures two = ap (framedBy rule) (sym (small.host-scene pictures two))
 
   -- one frame x that is promised of both
-  dim-bright : {x p q : List ℕ} → p ≡ 100 ∷ 100 ∷ 100 ∷ 255 ∷ [] → q ≡ 101 ∷ 101 ∷ 101 ∷ 255 ∷ [] → x ≡ p → x ≡ q → ⊥
+  pub dim-bright : {x p q : List ℕ} → p ≡ 100 ∷ 100 ∷ 100 ∷ 255 ∷ [] → q ≡ 101 ∷ 101 ∷ 101 ∷ 255 ∷ [] → x ≡ p → x ≡ q
+      → ⊥
   dim-bright dims brights p q = not-both 0 (λ (z : 100 ≡ 101). omega arith) (p ∙ dims) (q ∙ brights)
 
   pub paint-ground-last : Paints dim (paintBy rule dim) → Paints bright (paintBy rule bright) → ⊥

@@ -28,6 +28,7 @@ use Rattle.display.specs.Put.{putAnswer, putOf}
 use Rattle.display.specs.Paint.{fillTold, fillBytes, paintTold, paintBytes, frameTold, frameBytes}
 use Rattle.display.specs.Reached.{Reached, by-new, by-write, by-select, by-start}
 use Rattle.display.proofs.Unique.{paint-tie, frame-tie}
+use Rattle.words.specs.Image.{wordsFrom}
 use Rattle.host.specs.Host as host
 use Rattle.host.proofs.Unique.{host-tie}
 use Rattle.hex.specs.Hex.{valueOf, isHex, bytesIn, digitOf, digitsOf}
@@ -137,7 +138,7 @@ module _ (pictures : List ℕ) (two : length pictures ≡ 8) where
   frame-accepted = passes
 
   pub host-accepted : host.hostAnswer image 1 blank pictures filled ≡ done
-  unfolding wordsOpen host.hostAnswer host.wordsOf littleAt tab painting.paintRefusal
+  unfolding wordsOpen host.hostAnswer wordsFrom littleAt tab painting.paintRefusal
   host-accepted = rw (eq-eqb _ _ blank-long, two)
 
   -- ---- what is promised: the frame of the scene
@@ -151,7 +152,7 @@ module _ (pictures : List ℕ) (two : length pictures ≡ 8) where
   framed-is = rw passes
 
   pub host-scene : hostScene pictures ≡ scene pictures
-  unfolding wordsOpen host.wordsOf littleAt tab
+  unfolding wordsOpen wordsFrom littleAt tab
   host-scene = refl
 
   pub hosted-is : hosted pictures ≡ painting.frameOf (scene pictures)

@@ -17,6 +17,14 @@ pair-is {A} {B} = (
   λ q. (ap (λ (z : A × B). z .0) q, ap (λ (z : A × B). z .1) q),
 )
 
+-- of three
+pub triple-is : {A B C : Type 0} {a x : A} {b y : B} {c z : C}
+    → ((a ≡ x) × ((b ≡ y) × (c ≡ z))) ↔ (_≡_ {A = A × B × C} (a, b, c) (x, y, z))
+triple-is {A} {B} {C} {a} {x} {b} {y} {c} {z} = (
+  λ p. ap (λ (u : A). (u, b, c)) (p .0) ∙ ap (λ (v : B). (x, v, c)) (p .1 .0) ∙ ap (λ (w : C). (x, y, w)) (p .1 .1),
+  λ q. (ap (λ (t : A × B × C). t .0) q, (ap (λ (t : A × B × C). t .1) q, ap (λ (t : A × B × C). t .2) q)),
+)
+
 -- ---- from the tie
 
 module _ {X O : Type 0} {c : Call X O} {def : X → O} (t : Tied c def) where

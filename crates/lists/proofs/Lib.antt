@@ -12,4 +12,5 @@ pub mod Run
 pub mod Steps
 pub mod Over
 pub mod Cut
+pub mod Little
 pub mod Call

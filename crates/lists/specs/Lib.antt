@@ -8,4 +8,5 @@ pub mod Steps
 pub mod Over
 pub mod Cut
 pub mod Little
+pub mod Bytes
 pub mod Call

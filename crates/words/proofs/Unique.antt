@@ -9,6 +9,8 @@ use Rattle.words.proofs.fields.screen_height.Reads as screen_height
 use Rattle.words.proofs.fields.ground_of.Reads as ground_of
 use Rattle.words.proofs.fields.active_bank.Reads as active_bank
 use Rattle.words.proofs.fields.layer_of.Reads as layer_of
+use Rattle.words.proofs.image.word_at.Reads as word_at
+use Rattle.words.proofs.image.words_at.Reads as words_at
 
 pub is-shown-unique : (κs i a b e f : _) → is_shown.Post κs i a e → is_shown.Post κs i b f → a ≡ b
 is-shown-unique κs i a b e f p q = meet p q
@@ -30,3 +32,9 @@ active-bank-unique κs i a b e f p q = meet p q
 
 pub layer-of-unique : (κs i a b e f : _) → layer_of.Post κs i a e → layer_of.Post κs i b f → a ≡ b
 layer-of-unique κs i a b e f p q = meet p q
+
+pub word-at-unique : (κs i a b e f : _) → word_at.Post κs i a e → word_at.Post κs i b f → a ≡ b
+word-at-unique κs i a b e f p q = meet p q
+
+pub words-at-unique : (κs i a b e f : _) → words_at.Post κs i a e → words_at.Post κs i b f → a ≡ b
+words-at-unique κs i a b e f p q = meet p q

@@ -3,3 +3,4 @@ pub mod Fields
 pub mod Check
 pub mod Order
 pub mod Pictures
+pub mod Image

@@ -1,4 +1,4 @@
-//! 01 "Answers by number", row for row.
+//! 01 "Answers by number", row for row, and the one number that the calls from C have beside them.
 
 /// "done"
 pub const DONE: u32 = 0;
@@ -34,3 +34,5 @@ pub const WRONG_PICTURES: u32 = 14;
 pub const WRONG_BAND: u32 = 15;
 /// "host entry: register image not 208 bytes"
 pub const WRONG_IMAGE: u32 = 16;
+/// A call from C whose state is not 436 bytes.
+pub const WRONG_STATE: u32 = 23;

@@ -2,9 +2,10 @@
 //! document 01.
 
 use crate::cases::HostCase;
+use crate::doors::{begin_record, Step, Told, OUTPUT, STATE};
 use std::env;
 use std::ffi::OsString;
-use std::io::{Read, Write};
+use std::io::{self, Read, Write};
 use std::ops::RangeInclusive;
 use std::path::{Path, PathBuf};
 use std::process::{Child, Command, Stdio};
@@ -93,15 +94,18 @@ pub struct Host {
     child: Child,
 }
 
+/// A program that reads and tells by turns.
+fn spawn(program: &Path) -> Child {
+    Command::new(program)
+        .stdin(Stdio::piped())
+        .stdout(Stdio::piped())
+        .spawn()
+        .unwrap_or_else(|error| panic!("{} does not run: {error}", program.display()))
+}
+
 impl Host {
     pub fn start() -> Host {
-        let program = program("SPOONWING_HOST", "../../tools/c-host");
-        let child = Command::new(&program)
-            .stdin(Stdio::piped())
-            .stdout(Stdio::piped())
-            .spawn()
-            .unwrap_or_else(|error| panic!("{} does not run: {error}", program.display()));
-        Host { child }
+        Host { child: spawn(&program("SPOONWING_HOST", "../../tools/c-host")) }
     }
 
     /// The answer, whether a byte was touched that no call may touch, and the output.
@@ -130,6 +134,64 @@ impl Host {
             (0, false, output) => Ok(output),
             (answer, touched, _) => Err(format!("it answers {answer}, touches others: {touched}")),
         }
+    }
+}
+
+/// The C program of `display_calls.c`, which makes one row of calls after another.
+pub struct Doors {
+    child: Child,
+}
+
+impl Doors {
+    pub fn start() -> Doors {
+        Doors { child: spawn(&program("SPOONWING_DISPLAY", "../../tools/c-display")) }
+    }
+
+    /// What it tells of each call of a row. A row that ends the program is told up to there, and
+    /// the program is started anew.
+    pub fn row(&mut self, steps: &[Step]) -> Vec<Told> {
+        let mut told = Vec::new();
+        if self.tell(steps, &mut told).is_err() {
+            self.child.wait().expect("it was started");
+            *self = Doors::start();
+        }
+        told
+    }
+
+    fn tell(&mut self, steps: &[Step], told: &mut Vec<Told>) -> io::Result<()> {
+        self.write(&begin_record())?;
+        for step in steps {
+            told.extend(self.step(step)?);
+        }
+        Ok(())
+    }
+
+    fn step(&mut self, step: &Step) -> io::Result<Option<Told>> {
+        self.write(&step.record())?;
+        let Step::Call { lent, .. } = step else { return Ok(None) };
+        let [answer, touched] = [self.number()?, self.number()?];
+        let state = self.read(lent[STATE].length)?;
+        let mut changes = Vec::new();
+        for _ in 0..self.number()? {
+            changes.push((self.number()?, self.number()? as u8));
+        }
+        let out = self.read(lent[OUTPUT].length)?;
+        Ok(Some(Told { answer, is_touched: touched != 0, state, changes, out }))
+    }
+
+    fn write(&mut self, bytes: &[u8]) -> io::Result<()> {
+        let input = self.child.stdin.as_mut().expect("it is piped");
+        input.write_all(bytes).and_then(|()| input.flush())
+    }
+
+    fn read(&mut self, count: usize) -> io::Result<Vec<u8>> {
+        let mut bytes = vec![0; count];
+        self.child.stdout.as_mut().expect("it is piped").read_exact(&mut bytes)?;
+        Ok(bytes)
+    }
+
+    fn number(&mut self) -> io::Result<u32> {
+        Ok(u32::from_le_bytes(self.read(4)?.try_into().expect("four")))
     }
 }
 

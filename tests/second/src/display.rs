@@ -10,17 +10,19 @@ use crate::words::{Words, WORDS};
 /// bits), and a table selection with its place."
 #[derive(Clone, Debug, PartialEq, Eq)]
 pub struct Display {
-    pending: Words,
-    active: Words,
-    frame: u32,
-    errors: u32,
-    selected: Option<Selected>,
+    pub(crate) pending: Words,
+    pub(crate) active: Words,
+    pub(crate) frame: u32,
+    pub(crate) errors: u32,
+    pub(crate) selected: Selected,
 }
 
+/// Whether something is selected, the selection and its place.
 #[derive(Clone, Debug, PartialEq, Eq)]
-struct Selected {
-    bank: Bank,
-    place: usize,
+pub(crate) struct Selected {
+    pub is_any: bool,
+    pub selection: u32,
+    pub place: u32,
 }
 
 impl Default for Display {
@@ -37,7 +39,7 @@ impl Display {
             active: Words::fresh(),
             frame: 0,
             errors: 0,
-            selected: None,
+            selected: Selected { is_any: false, selection: 0, place: 0 },
         }
     }
 
@@ -78,10 +80,10 @@ impl Display {
 
     /// "Selecting sets the place to 0, also when it selects the same bank again."
     pub fn select(&mut self, selection: u32) -> u32 {
-        let Some(bank) = Bank::of_selection(selection) else {
+        if selection > 63 {
             return NO_BANK;
-        };
-        self.selected = Some(Selected { bank, place: 0 });
+        }
+        self.selected = Selected { is_any: true, selection, place: 0 };
         DONE
     }
 
@@ -107,23 +109,26 @@ impl Display {
         answer
     }
 
-    /// "Order: put 6, 3, 4, 5." and "Each put stores one byte and moves the place by one."
+    /// "Order: put 6, 3, 4, 5." and "Each put stores one byte and moves the place by one." A place
+    /// past the kind's end, which only a state that comes as bytes can have, counts as at it.
     pub fn put(&mut self, tables: &mut [u8], byte: u8) -> u32 {
         if tables.len() != TABLES_LEN {
             return WRONG_TABLES;
         }
-        let Some(Selected { bank, place }) = &mut self.selected else {
+        let Selected { is_any, selection, place } = &mut self.selected;
+        let bank = Bank::of_selection(*selection);
+        if !*is_any {
             return NOTHING_SELECTED;
-        };
+        }
         if self.active.bank(bank.kind, bank.g) == bank.b {
             return BANK_ACTIVE;
         }
-        if *place == bank.kind.end() {
+        if *place as usize >= bank.kind.end() {
             // "error bit 4g+1 set, else unchanged"
             self.errors |= 1 << (4 * bank.g + 1);
             return BANK_FULL;
         }
-        tables[bank.start() + *place] = byte;
+        tables[bank.start() + *place as usize] = byte;
         *place += 1;
         DONE
     }

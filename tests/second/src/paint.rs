@@ -1,5 +1,5 @@
-//! 01 "Painting": fill, blend and bands over a lent output, for words that have passed their
-//! checks. The state and most refusals are in `display`.
+//! 01 "Painting": fill, blend and bands over a lent output. A layer is painted where it lies on the
+//! screen, also in words that no start lets in. The state and most refusals are in `display`.
 
 use crate::answers::*;
 use crate::draw::List;
@@ -84,9 +84,9 @@ impl Shown {
     }
 }
 
-/// What an enabled layer shows at each of its pixels. A frame layer's picture is "in raster order";
-/// for a graphics layer "the colour table gives channel 0, 1, 2, alpha for an index (000)". "u, v
-/// count from the layer's corner".
+/// What an enabled layer shows at each of its pixels that lies on the screen. A frame layer's
+/// picture is "in raster order"; for a graphics layer "the colour table gives channel 0, 1, 2,
+/// alpha for an index (000)". "u, v count from the layer's corner".
 pub fn shown(words: &Words, n: usize, frame: u32, tables: &[u8], pictures: &[u8]) -> Vec<Shown> {
     let layer = words.layer(n);
     let list = List::read(active_bytes(words, Kind::Instruction, n, tables));
@@ -112,10 +112,9 @@ pub fn shown(words: &Words, n: usize, frame: u32, tables: &[u8], pictures: &[u8]
             alpha,
         }
     };
-    (0..layer.height)
-        .flat_map(|v| (0..layer.width).map(move |u| (u, v)))
-        .map(|(u, v)| pixel(u, v))
-        .collect()
+    let columns = layer.width.min(words.width() - layer.x);
+    let rows = layer.height.min(words.height() - layer.y);
+    (0..rows).flat_map(|v| (0..columns).map(move |u| (u, v))).map(|(u, v)| pixel(u, v)).collect()
 }
 
 /// "No END means that painting the layer sets error bit 4n (000)."

@@ -1,6 +1,6 @@
 //! 01 "Tables": where each bank lies in the lent table buffer, and what a selection number names.
 
-use crate::words::Words;
+use crate::words::{field, Words};
 
 pub const TABLES_LEN: usize = 29_696;
 pub const CONTROLLER_LEN: usize = 3_712;
@@ -65,16 +65,14 @@ pub struct Bank {
 
 impl Bank {
     /// "A selection is a number 0..63: bits 5:3 controller (001), bits 2:1 kind (0 instruction, 1
-    /// colour, 2 text, 3 font), bit 0 bank."
-    pub fn of_selection(selection: u32) -> Option<Bank> {
-        if selection > 63 {
-            return None;
+    /// colour, 2 text, 3 font), bit 0 bank." Any number is read by these bits: no select takes one
+    /// above 63, but a state that comes as bytes may hold one.
+    pub fn of_selection(selection: u32) -> Bank {
+        Bank {
+            g: field(selection, 5, 3) as usize,
+            kind: Kind::ALL[field(selection, 2, 1) as usize],
+            b: field(selection, 0, 0) as usize,
         }
-        Some(Bank {
-            g: (selection >> 3) as usize,
-            kind: Kind::ALL[(selection >> 1 & 0b11) as usize],
-            b: (selection & 1) as usize,
-        })
     }
 
     pub fn selection(self) -> u32 {

@@ -13,8 +13,8 @@ cast-result c = search needs
 returns : tie.Need-returns
 returns c = host-length _ _ _ _ _ (c .if1 .taken)
 
-words-of-requires : tie.Need-words-of-requires
-words-of-requires c κs = search needs
+words-at-requires : tie.Need-words-at-requires
+words-at-requires c κs = search needs
 
 refusal-of-requires : tie.Need-refusal-of-requires
 refusal-of-requires c κs = search needs
@@ -25,7 +25,7 @@ cast-result-2 c = search needs
 returns-2 : tie.Need-returns-2
 returns-2 c =
     host-refused _ _ _ _ _ (c .before .before .before .before .if1 .left) _ (c .before .refusal-of .ensures
-    ∙ ap checkOf (c .before .before .before .words-of .ensures)) (c .if2 .taken)
+    ∙ ap checkOf (c .before .before .before .words-at .ensures)) (c .if2 .taken)
 
 frame-requires : tie.Need-frame-requires
 frame-requires c κs = search needs
@@ -38,7 +38,7 @@ same-length c = search needs
 
 returns-3 : tie.Need-returns-3
 returns-3 c =
-    let w = c .before .before .before .before .before .before .before .before .before .words-of .ensures in
+    let w = c .before .before .before .before .before .before .before .before .before .words-at .ensures in
     host-painted _ _ _ _ _
     (c .before .before .before .before .before .before .before .before .before .before .if1 .left) _ _ _
     (c .before .before .before .before .before .before .before .refusal-of .ensures ∙ ap checkOf w)
@@ -51,7 +51,7 @@ spoonwing-frame-spec =
     (tie.spec
     cast-result
     returns
-    words-of-requires
+    words-at-requires
     refusal-of-requires
     cast-result-2
     returns-2

@@ -3,6 +3,7 @@
 use crate::answers::DONE;
 use crate::cases::banks;
 use crate::cases::scene::{controller, nudge, scene, spoil, Room};
+use crate::display::Display;
 use crate::rng::Rng;
 use crate::script::*;
 use crate::tables::{Bank, Kind, TABLES_LEN};
@@ -235,7 +236,7 @@ impl Author {
     /// Writes the words of a scene and starts it; some of the words are faulty.
     fn set_up(&mut self) {
         let pending = self.stage.display.pending().clone();
-        let mut wish = self.wish(&pending);
+        let mut wish = wish(&mut self.rng, &self.stage.display);
         if self.rng.percent(20) {
             let fault = self.rng.range(7, 11) as u32;
             spoil(&mut self.rng, &mut wish, fault);
@@ -253,27 +254,6 @@ impl Author {
         }
         for _ in 0..self.rng.range(1, 3) {
             self.call(START, 0, 0);
-        }
-    }
-
-    fn wish(&mut self, pending: &Words) -> Words {
-        let now = self.stage.display.frame_number().wrapping_add(1);
-        let room = |width, height| Room { width, height, frame_pixels: FRAME_PIXELS, now };
-        // After a refused start the pending words are left behind and the active ones gone on from.
-        let active = self.stage.display.active();
-        let base = [pending, active].into_iter().find(|words| words.check() == DONE).cloned();
-        match base {
-            Some(base) if self.rng.percent(92) => {
-                let room = room(base.width(), base.height());
-                let mut wish = nudge(&mut self.rng, &base, room);
-                wish.0[0] = 0b100 | u32::from(self.rng.percent(90));
-                wish.0[3] ^= 1 << self.rng.below(32);
-                wish
-            }
-            _ => {
-                let (width, height) = (self.rng.range(1, 40), self.rng.range(1, 24));
-                scene(&mut self.rng, room(width, height))
-            }
         }
     }
 
@@ -309,7 +289,7 @@ impl Author {
             self.call(FILL, 0, 0);
         }
         let middle = self.rng.range(0, 8) as u32;
-        for (low, high) in [(0, middle), (middle, 8), self.odd_band()] {
+        for (low, high) in [(0, middle), (middle, 8), odd_band(&mut self.rng)] {
             self.call(BAND, low, high);
             self.lend_all();
         }
@@ -322,15 +302,35 @@ impl Author {
         self.lend(1, pictures);
         self.lend(2, out);
     }
+}
 
-    /// A band that is empty, refused, or any at all.
-    fn odd_band(&mut self) -> (u32, u32) {
-        let (low, high) = (self.rng.below(9) as u32, self.rng.below(9) as u32);
-        let edges = [(8, 8), (9, 9), (0, 9), (8, 7), (9, 8), (0, u32::MAX)];
-        if self.rng.percent(40) {
-            (low, high)
-        } else {
-            self.rng.pick(&edges)
+/// The words that a display shall have pending before its next start.
+pub fn wish(rng: &mut Rng, display: &Display) -> Words {
+    let now = display.frame_number().wrapping_add(1);
+    let room = |width, height| Room { width, height, frame_pixels: FRAME_PIXELS, now };
+    // After a refused start the pending words are left behind and the active ones gone on from.
+    let words = [display.pending(), display.active()];
+    match words.into_iter().find(|words| words.check() == DONE) {
+        Some(base) if rng.percent(92) => {
+            let mut wish = nudge(rng, base, room(base.width(), base.height()));
+            wish.0[0] = 0b100 | u32::from(rng.percent(90));
+            wish.0[3] ^= 1 << rng.below(32);
+            wish
         }
+        _ => {
+            let (width, height) = (rng.range(1, 40), rng.range(1, 24));
+            scene(rng, room(width, height))
+        }
+    }
+}
+
+/// A band that is empty, refused, or any at all.
+pub fn odd_band(rng: &mut Rng) -> (u32, u32) {
+    let (low, high) = (rng.below(9) as u32, rng.below(9) as u32);
+    let edges = [(8, 8), (9, 9), (0, 9), (8, 7), (9, 8), (0, u32::MAX)];
+    if rng.percent(40) {
+        (low, high)
+    } else {
+        rng.pick(&edges)
     }
 }

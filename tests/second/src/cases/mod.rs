@@ -1,9 +1,11 @@
-//! Seeded cases for the tests: sheets, host calls, scripts of calls, and inputs that meet what a
-//! law asks. A case's number is its seed. What is right or wrong about a case is never decided
-//! here.
+//! Seeded cases for the tests: sheets, host calls, scripts of calls, rows of calls from C, and
+//! inputs that meet what a law asks. A case's number is its seed. What is right or wrong about a
+//! case is never decided here.
 
 mod banks;
 mod calls;
+mod damage;
+mod doors;
 mod drawings;
 mod form;
 mod hosts;
@@ -13,6 +15,7 @@ mod sheets;
 mod sweeps;
 
 pub use calls::{gate_script, gen_calls, gen_edges, gen_split, EDGES, RECORDS_A_SCRIPT, SCRIPTS};
+pub use doors::{gen_row, ROWS};
 pub use drawings::drawing_sheet;
 pub use form::line_text;
 pub use hosts::{gen_host, HostCase, HOST_CALLS};

@@ -1,8 +1,10 @@
 //! What the seeded cases of the gate reach, with how often at least: every answer, kind of call,
 //! fade and order of depths. `--nocapture` shows the counts.
 
+mod doors;
+
 use second::answers::*;
-use second::cases::{gate_script, gen_calls, gen_edges, gen_host, gen_sheet, HostCase};
+use second::cases::{gate_script, gen_calls, gen_edges, gen_host, gen_row, gen_sheet, HostCase};
 use second::cases::{EDGES, HOST_CALLS, LINES_A_SHEET, RECORDS_A_SCRIPT, SCRIPTS, SHEETS};
 use second::draw::List;
 use second::host::{host_frame, image_words};
@@ -344,4 +346,6 @@ fn a_seed_is_a_case() {
     assert_ne!(gen_sheet(7, 40), gen_sheet(8, 40));
     assert_eq!(format!("{:?}", gen_host(7)), format!("{:?}", gen_host(7)));
     assert_eq!(format!("{:?}", gen_calls(7, 100)), format!("{:?}", gen_calls(7, 100)));
+    assert_eq!(gen_row(7), gen_row(7));
+    assert_ne!(gen_row(7), gen_row(8));
 }

@@ -1,0 +1,52 @@
+/* Both sides begin with the registers of the museum scene, pending and active, and with one of
+ * its idle banks selected. */
+#include <stdlib.h>
+#include <string.h>
+
+#include "kept.h"
+#include "scenes.h"
+
+enum { DISPLAY_ON = 1, UPDATE_ENABLE = 4, IDLE_SELECTION = 1 };
+
+/* The struct is the state's 109 words: a size below 0 does not compile. */
+typedef char same_length[sizeof(struct plain_display) == SPOONWING_STATE_LEN ? 1 : -1];
+
+const char *const WORK_NAME[WORKS] = {
+    [WRITE] = "write",
+    [START] = "start without update",
+    [UPDATE] = "start with update",
+    [EMPTY_BAND] = "paint a band of no depth",
+    [PUT] = "put",
+};
+
+/* The struct's words stand in memory as the state's do on an x86-64. */
+struct kept *new_kept(int work)
+{
+    struct kept *kept = room(sizeof *kept);
+    struct plain_display *plain = &kept->plain;
+    memset(kept, 0, sizeof *kept);
+    kept->scene = museum(640, 360);
+    memcpy(plain->pending, kept->scene->image, sizeof plain->pending);
+    plain->pending[0] = DISPLAY_ON | (work == UPDATE ? UPDATE_ENABLE : 0);
+    memcpy(plain->active, plain->pending, sizeof plain->active);
+    plain->is_selected = 1;
+    plain->selection = IDLE_SELECTION;
+    memcpy(kept->state, plain, sizeof kept->state);
+    kept->plain_tables = room(SPOONWING_TABLES_LENGTH);
+    memcpy(kept->plain_tables, kept->scene->tables, SPOONWING_TABLES_LENGTH);
+    kept->output = room(frame_length(kept->scene));
+    return kept;
+}
+
+void drop_kept(struct kept *kept)
+{
+    drop_scene(kept->scene);
+    free(kept->plain_tables);
+    free(kept->output);
+    free(kept);
+}
+
+void do_work(struct kept *kept, int work, int side)
+{
+    (side == PROVED ? PROVED_WORK : PLAIN_WORK)[work](kept);
+}

@@ -1,0 +1,45 @@
+/* A display kept twice, as the archive's bytes and as a plain C struct, and work for both: many
+ * calls of one kind in a row. */
+#ifndef KEPT_H
+#define KEPT_H
+
+#include "scene.h"
+
+/* A start with the update bit set checks all words and copies them; a band of no depth has all of
+ * a painting's refusals and nothing to paint. */
+enum { WRITE, START, UPDATE, EMPTY_BAND, PUT, WORKS };
+
+/* A bank's instructions have so many bytes, so that many puts follow one select. */
+enum { CALLS = INSTRUCTIONS * INSTRUCTION_LENGTH };
+
+enum { REGISTERS = 52 };
+
+/* The state's words, in the order of its bytes. */
+struct plain_display {
+    uint32_t pending[REGISTERS], active[REGISTERS];
+    uint32_t frame, errors, is_selected, selection, place;
+};
+
+struct kept {
+    uint8_t state[SPOONWING_STATE_LEN];
+    struct plain_display plain;
+    struct scene *scene; /* its image is in both states; its tables are the archive's */
+    uint8_t *plain_tables, *output;
+};
+
+/* The archive's side and the struct's. */
+enum { PROVED, PLAIN, SIDES };
+typedef void work(struct kept *kept);
+extern work *const PROVED_WORK[WORKS], *const PLAIN_WORK[WORKS];
+
+/* The work's name in the tables. */
+extern const char *const WORK_NAME[WORKS];
+
+/* A display that is ready for a work, on both sides alike. */
+struct kept *new_kept(int work);
+void drop_kept(struct kept *kept);
+
+/* Does the work of one side once. */
+void do_work(struct kept *kept, int work, int side);
+
+#endif

@@ -1,0 +1,143 @@
+/* Written from document 01's "Registers", "Tables" and "Answers by number". */
+#include <string.h>
+
+#include "plain_display.h"
+
+enum { LAYERS = 8, FIRST_LAYER = 4, LAYER_WORDS = 6, UPDATE_ENABLE = 4 };
+
+static uint32_t low_half(uint32_t word) { return word & 4095; }
+static uint32_t high_half(uint32_t word) { return word >> 16 & 4095; }
+
+static const uint32_t *layer_words(const uint32_t *words, int n)
+{
+    return words + FIRST_LAYER + LAYER_WORDS * n;
+}
+
+static int is_enabled(const uint32_t *layer) { return layer[0] & 1; }
+static int is_graphics(const uint32_t *layer) { return layer[0] >> 1 & 1; }
+
+/* ---- registers */
+
+uint32_t plain_write(struct plain_display *display, uint32_t register_number, uint32_t value)
+{
+    if (register_number >= REGISTERS)
+        return SPOONWING_NO_REGISTER;
+    display->pending[register_number] = value;
+    return SPOONWING_DONE;
+}
+
+/* ---- the check of a start */
+
+static int has_reserved(const uint32_t *words)
+{
+    static const uint32_t first[FIRST_LAYER] = {5, 0x0FFF0FFF, 0x00FFFFFF, 0xFFFFFFFF};
+    static const uint32_t layer[LAYER_WORDS] = {0x703,      0x800000FF, 0x0FFF0FFF,
+                                                0x0FFF0FFF, 0xFFFFFFFF, 0x00FFFFFF};
+    uint32_t reserved = 0;
+    for (int i = 0; i < FIRST_LAYER; i++)
+        reserved |= words[i] & ~first[i];
+    for (int i = FIRST_LAYER; i < REGISTERS; i++)
+        reserved |= words[i] & ~layer[(i - FIRST_LAYER) % LAYER_WORDS];
+    return reserved != 0;
+}
+
+/* 9 or 10 for one layer. */
+static uint32_t layer_refusal(const uint32_t *layer, uint32_t screen)
+{
+    uint32_t corner = layer[2], size = layer[3];
+    if (low_half(size) == 0 || high_half(size) == 0)
+        return SPOONWING_EMPTY_LAYER;
+    if (low_half(corner) + low_half(size) > low_half(screen) ||
+        high_half(corner) + high_half(size) > high_half(screen))
+        return SPOONWING_OFF_SCREEN;
+    return SPOONWING_DONE;
+}
+
+static uint32_t check(const uint32_t *words)
+{
+    uint32_t depths = 0, same = 0;
+    if (has_reserved(words))
+        return SPOONWING_RESERVED_BIT;
+    if (low_half(words[1]) == 0 || high_half(words[1]) == 0)
+        return SPOONWING_EMPTY_SCREEN;
+    for (int n = 0; n < LAYERS; n++) {
+        const uint32_t *layer = layer_words(words, n);
+        uint32_t depth = UINT32_C(1) << (layer[0] >> 8 & 7);
+        if (!is_enabled(layer))
+            continue;
+        uint32_t answer = layer_refusal(layer, words[1]);
+        if (answer != SPOONWING_DONE)
+            return answer;
+        same |= depths & depth;
+        depths |= depth;
+    }
+    return same ? SPOONWING_SAME_DEPTH : SPOONWING_DONE;
+}
+
+uint32_t plain_start(struct plain_display *display)
+{
+    display->frame++;
+    if (!(display->pending[0] & UPDATE_ENABLE))
+        return SPOONWING_DONE;
+    uint32_t answer = check(display->pending);
+    if (answer == SPOONWING_DONE)
+        memcpy(display->active, display->pending, sizeof display->active);
+    return answer;
+}
+
+/* ---- tables */
+
+uint32_t plain_select(struct plain_display *display, uint32_t selection)
+{
+    if (selection > 63)
+        return SPOONWING_NO_SELECTION;
+    display->is_selected = 1;
+    display->selection = selection;
+    display->place = 0;
+    return SPOONWING_DONE;
+}
+
+uint32_t plain_put(struct plain_display *display, uint8_t *tables, size_t length, uint8_t byte)
+{
+    static const uint32_t begin[] = {0, COLOURS_AT, STRINGS_AT, FONT_AT, BANK_LENGTH};
+    uint32_t g = display->selection >> 3 & 7, kind = display->selection >> 1 & 3;
+    uint32_t bank = display->selection & 1;
+    if (length != SPOONWING_TABLES_LENGTH)
+        return SPOONWING_BAD_TABLES_LENGTH;
+    if (!display->is_selected)
+        return SPOONWING_NOT_SELECTED;
+    if ((display->active[3] >> (8 * kind + g) & 1) == bank)
+        return SPOONWING_BANK_ACTIVE;
+    if (display->place >= begin[kind + 1] - begin[kind]) {
+        display->errors |= UINT32_C(1) << (4 * g + 1);
+        return SPOONWING_BANK_FULL;
+    }
+    tables[CONTROLLER_LENGTH * g + BANK_LENGTH * bank + begin[kind] + display->place++] = byte;
+    return SPOONWING_DONE;
+}
+
+/* ---- painting */
+
+static size_t pixel_bytes(uint32_t size)
+{
+    return (size_t)PIXEL * low_half(size) * high_half(size);
+}
+
+uint32_t plain_refusal(const struct plain_display *display, uint32_t low, uint32_t high,
+                       size_t tables_length, size_t pictures_length, size_t output_length)
+{
+    size_t output = pixel_bytes(display->active[1]), pictures = 0;
+    if (low > high || high > LAYERS)
+        return SPOONWING_NO_BAND;
+    if (output == 0)
+        return SPOONWING_NO_SIZE;
+    if (output_length != output)
+        return SPOONWING_BAD_OUTPUT_LENGTH;
+    if (tables_length != SPOONWING_TABLES_LENGTH)
+        return SPOONWING_BAD_TABLES_LENGTH;
+    for (int n = 0; n < LAYERS; n++) {
+        const uint32_t *layer = layer_words(display->active, n);
+        pictures += is_enabled(layer) && !is_graphics(layer) ? pixel_bytes(layer[3]) : 0;
+    }
+    return pictures_length == pictures ? SPOONWING_DONE : SPOONWING_BAD_PICTURES_LENGTH;
+}

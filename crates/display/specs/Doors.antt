@@ -1,0 +1,65 @@
+-- The state as bytes that a C host lends, and what a call through a door answers and leaves. A door has the
+-- name, the arguments and the meaning of a call of the display. Assumes nothing.
+use Prim.Native.Nat.{ℕ}
+use mathlib.Core.List.{List, [], _∷_, _++_}
+use mathlib.Core.Bool.{Bool, true, false}
+use lib.ListN.{length}
+use lib.Dec.{eqb, ltb}
+use Rattle.lists.specs.Choice.{pick, choose}
+use Rattle.lists.specs.Little.{littleAt}
+use Rattle.lists.specs.Bytes.{littleBytes}
+use Rattle.lists.specs.Tab.{tab}
+use Rattle.answers.specs.Answers.{stateLength}
+use Rattle.words.specs.Image.{wordsFrom}
+use Rattle.display.specs.declared.Display.{Display}
+use Rattle.display.specs.declared.Told.{Told}
+use Rattle.display.specs.State.{display, selectionOf}
+
+-- 109 words of four bytes: 52 pending, 52 active, and five more
+abbrev pub stateLen : ℕ
+stateLen = 436
+
+-- ---- a state out of bytes
+
+-- every byte string stands for a state: something is selected where that word is not 0
+unfoldable pub takenOf : List ℕ → Display
+takenOf s =
+    display (wordsFrom s 0) (wordsFrom s 208) (littleAt s 416) (littleAt s 420)
+    (selectionOf (ltb 0 (littleAt s 424)) (littleAt s 428) (littleAt s 432))
+
+-- ---- bytes out of a state
+
+-- a flag as a word
+abbrev pub flag : Bool → ℕ
+flag true = 1
+flag false = 0
+
+-- the words behind the registers: frame number, error word, and the selection
+unfoldable pub lastWords : Display → List ℕ
+lastWords d = d .frame ∷ d .errors ∷ flag (d .selection .made) ∷ d .selection .number ∷ d .selection .place ∷ []
+
+-- all 109
+unfoldable pub stateWords : Display → List ℕ
+stateWords d = d .pending ++ (d .active ++ lastWords d)
+
+-- each the lowest byte first
+unfoldable pub stateBytes : Display → List ℕ
+stateBytes d = tab stateLen (littleBytes (stateWords d))
+
+-- ---- a call through a door: of a state of another length, 23 and all unchanged
+
+-- the call's answer
+unfoldable pub doorAnswer : List ℕ → (Display → Told) → ℕ
+doorAnswer s call = pick (eqb (length s) stateLen) (call (takenOf s) .answer) stateLength
+
+-- the lent state
+unfoldable pub doorState : List ℕ → (Display → Told) → List ℕ
+doorState s call = choose (eqb (length s) stateLen) (stateBytes (call (takenOf s) .state)) s
+
+-- a buffer that the call writes, which it would leave as `after` says
+unfoldable pub doorBuffer : List ℕ → (Display → List ℕ) → List ℕ → List ℕ
+doorBuffer s after before = choose (eqb (length s) stateLen) (after (takenOf s)) before
+
+-- a number that is read of the state, or 0
+unfoldable pub doorRead : List ℕ → (Display → ℕ) → ℕ
+doorRead s read = pick (eqb (length s) stateLen) (read (takenOf s)) 0

@@ -1,0 +1,254 @@
+// The calls of a display for a host in C, over a state that it lends as bytes: each takes the bytes apart,
+// makes the call and puts them back. To Rattle the state stays closed: nothing here hands out a `Display`.
+ghost use mathlib.Core.Path.{_≡_};
+ghost use lib.ListN.{length};
+ghost use Rattle.answers.specs.Answers.{done};
+ghost use Rattle.words.specs.Fields.{widthOf, heightOf};
+ghost use Rattle.display.specs.State.{fresh, told, writeOf, selectOf, toggleOf, startOf};
+ghost use Rattle.display.specs.Put.{putOf, putTables};
+ghost use Rattle.display.specs.Paint.{fillTold, fillBytes, paintTold, paintBytes, frameTold, frameBytes};
+ghost use Rattle.display.specs.Doors.{stateLen, takenOf, flag, stateBytes, doorAnswer, doorState};
+ghost use Rattle.display.specs.Doors.{doorBuffer, doorRead};
+use crate::Display;
+use crate::Selection;
+use crate::Told;
+use answers::DONE;
+use answers::STATE_LENGTH;
+use numbers::put_words;
+use words::image::word_at;
+use words::image::words_at;
+
+// Pending words, active words, frame number, error word, whether something is selected, selection, place.
+const STATE_LEN: usize = 436;
+
+// ---- the state
+
+fn taken(state: &[u8]) -> Display
+    requires { ⌜ length (now state) ≡ stateLen ⌝ }
+    ensures { λ r. ⌜ r ≡ takenOf (now (state .entry)) ⌝ }
+{
+    let pending = words_at(state, 0);
+    let active = words_at(state, 208);
+    let frame = word_at(state, 416);
+    let errors = word_at(state, 420);
+    let made = 0 < word_at(state, 424);
+    let number = word_at(state, 428);
+    let place = word_at(state, 432);
+    Display {
+        pending,
+        active,
+        frame,
+        errors,
+        selection: Selection {
+            made,
+            number,
+            place,
+        },
+    }
+}
+
+fn flag_of(set: bool) -> u32
+    ensures { λ r. ⌜ r ≡ flag set ⌝ }
+{
+    if set {
+        return 1;
+    }
+    0
+}
+
+fn put_back(d: Display, state: &mut [u8])
+    requires { ⌜ length (now state) ≡ stateLen ⌝ }
+    ensures { λ _. ⌜ now (state .exit) ≡ stateBytes d ⌝ }
+{
+    let made = flag_of(d.selection.made);
+    let last: [u32; 5] = [
+        d.frame,
+        d.errors,
+        made,
+        d.selection.number,
+        d.selection.place,
+    ];
+    put_words(&mut state[0..208], &d.pending);
+    put_words(&mut state[208..416], &d.active);
+    put_words(&mut state[416..436], &last);
+}
+
+// What a call told: its state put back, its answer as C has it.
+fn given(told: Told, state: &mut [u8]) -> u32
+    requires { ⌜ length (now state) ≡ stateLen ⌝ }
+    ensures answer { λ r. ⌜ r ≡ told .answer ⌝ }
+    ensures state { λ _. ⌜ now (state .exit) ≡ stateBytes (told .state) ⌝ }
+{
+    put_back(told.state, state);
+    told.answer as u32
+}
+
+// ---- the doors: a state of another length is refused with 23, and all is as it was
+
+#[no_mangle]
+pub extern "C" fn spoonwing_display_new(state: &mut [u8]) -> u32
+    ensures answer { λ r. ⌜ r ≡ doorAnswer (now (state .entry)) (λ _. told fresh done) ⌝ }
+    ensures state { λ _. ⌜ now (state .exit) ≡ doorState (now (state .entry)) (λ _. told fresh done) ⌝ }
+{
+    if state.len() != STATE_LEN {
+        return STATE_LENGTH as u32;
+    }
+    put_back(Display::new(), state);
+    DONE as u32
+}
+
+#[no_mangle]
+pub extern "C" fn spoonwing_display_write(state: &mut [u8], register: u32, value: u32) -> u32
+    ensures answer { λ r. ⌜ r ≡ doorAnswer (now (state .entry)) (λ d. writeOf d register value) ⌝ }
+    ensures state { λ _. ⌜ now (state .exit) ≡ doorState (now (state .entry)) (λ d. writeOf d register value) ⌝ }
+{
+    if state.len() != STATE_LEN {
+        return STATE_LENGTH as u32;
+    }
+    given(taken(state).write(register, value), state)
+}
+
+#[no_mangle]
+pub extern "C" fn spoonwing_display_select(state: &mut [u8], selection: u32) -> u32
+    ensures answer { λ r. ⌜ r ≡ doorAnswer (now (state .entry)) (λ d. selectOf d selection) ⌝ }
+    ensures state { λ _. ⌜ now (state .exit) ≡ doorState (now (state .entry)) (λ d. selectOf d selection) ⌝ }
+{
+    if state.len() != STATE_LEN {
+        return STATE_LENGTH as u32;
+    }
+    given(taken(state).select(selection), state)
+}
+
+#[no_mangle]
+pub extern "C" fn spoonwing_display_toggle(state: &mut [u8], bits: u32) -> u32
+    ensures answer { λ r. ⌜ r ≡ doorAnswer (now (state .entry)) (λ d. toggleOf d bits) ⌝ }
+    ensures state { λ _. ⌜ now (state .exit) ≡ doorState (now (state .entry)) (λ d. toggleOf d bits) ⌝ }
+{
+    if state.len() != STATE_LEN {
+        return STATE_LENGTH as u32;
+    }
+    given(taken(state).toggle(bits), state)
+}
+
+#[no_mangle]
+pub extern "C" fn spoonwing_display_start(state: &mut [u8]) -> u32
+    ensures answer { λ r. ⌜ r ≡ doorAnswer (now (state .entry)) (λ d. startOf d) ⌝ }
+    ensures state { λ _. ⌜ now (state .exit) ≡ doorState (now (state .entry)) (λ d. startOf d) ⌝ }
+{
+    if state.len() != STATE_LEN {
+        return STATE_LENGTH as u32;
+    }
+    given(taken(state).start(), state)
+}
+
+#[no_mangle]
+pub extern "C" fn spoonwing_display_put(state: &mut [u8], tables: &mut [u8], byte: u8) -> u32
+    ensures answer { λ r. ⌜ r ≡ doorAnswer (now (state .entry)) (λ d. putOf d (now (tables .entry))) ⌝ }
+    ensures state { λ _. ⌜ now (state .exit) ≡ doorState (now (state .entry)) (λ d. putOf d (now (tables .entry))) ⌝ }
+    ensures tables { λ _. ⌜ now (tables .exit)
+        ≡ doorBuffer (now (state .entry)) (λ d. putTables d (now (tables .entry)) byte) (now (tables .entry)) ⌝ }
+{
+    if state.len() != STATE_LEN {
+        return STATE_LENGTH as u32;
+    }
+    given(taken(state).put(tables, byte), state)
+}
+
+#[no_mangle]
+pub extern "C" fn spoonwing_display_fill(state: &mut [u8], out: &mut [u8]) -> u32
+    ensures answer { λ r. ⌜ r ≡ doorAnswer (now (state .entry)) (λ d. fillTold d (now (out .entry))) ⌝ }
+    ensures state { λ _. ⌜ now (state .exit) ≡ doorState (now (state .entry)) (λ d. fillTold d (now (out .entry))) ⌝ }
+    ensures output { λ _. ⌜ now (out .exit)
+        ≡ doorBuffer (now (state .entry)) (λ d. fillBytes d (now (out .entry))) (now (out .entry)) ⌝ }
+{
+    if state.len() != STATE_LEN {
+        return STATE_LENGTH as u32;
+    }
+    given(taken(state).fill(out), state)
+}
+
+#[no_mangle]
+pub extern "C" fn spoonwing_display_paint(
+    state: &mut [u8],
+    low: u32,
+    high: u32,
+    tables: &[u8],
+    pictures: &[u8],
+    out: &mut [u8],
+) -> u32
+    ensures answer { λ r. ⌜ r ≡ doorAnswer (now (state .entry))
+        (λ d. paintTold d low high (now (tables .entry)) (now (pictures .entry)) (now (out .entry))) ⌝ }
+    ensures state { λ _. ⌜ now (state .exit) ≡ doorState (now (state .entry))
+        (λ d. paintTold d low high (now (tables .entry)) (now (pictures .entry)) (now (out .entry))) ⌝ }
+    ensures output { λ _. ⌜ now (out .exit)
+        ≡ doorBuffer (now (state .entry)) (λ d. paintBytes d low high (now (tables .entry)) (now (pictures .entry))
+        (now (out .entry))) (now (out .entry)) ⌝ }
+{
+    if state.len() != STATE_LEN {
+        return STATE_LENGTH as u32;
+    }
+    given(taken(state).paint(low, high, tables, pictures, out), state)
+}
+
+#[no_mangle]
+pub extern "C" fn spoonwing_display_frame(
+    state: &mut [u8],
+    tables: &[u8],
+    pictures: &[u8],
+    out: &mut [u8],
+) -> u32
+    ensures answer { λ r. ⌜ r ≡ doorAnswer (now (state .entry))
+        (λ d. frameTold d (now (tables .entry)) (now (pictures .entry)) (now (out .entry))) ⌝ }
+    ensures state { λ _. ⌜ now (state .exit) ≡ doorState (now (state .entry))
+        (λ d. frameTold d (now (tables .entry)) (now (pictures .entry)) (now (out .entry))) ⌝ }
+    ensures output { λ _. ⌜ now (out .exit)
+        ≡ doorBuffer (now (state .entry)) (λ d. frameBytes d (now (tables .entry)) (now (pictures .entry))
+        (now (out .entry))) (now (out .entry)) ⌝ }
+{
+    if state.len() != STATE_LEN {
+        return STATE_LENGTH as u32;
+    }
+    given(taken(state).frame(tables, pictures, out), state)
+}
+
+// ---- reads: 0 of a state of another length
+
+#[no_mangle]
+pub extern "C" fn spoonwing_display_error_word(state: &[u8]) -> u32
+    ensures { λ r. ⌜ r ≡ doorRead (now (state .entry)) (λ d. d .errors) ⌝ }
+{
+    if state.len() != STATE_LEN {
+        return 0;
+    }
+    taken(state).error_word()
+}
+
+#[no_mangle]
+pub extern "C" fn spoonwing_display_frame_number(state: &[u8]) -> u32
+    ensures { λ r. ⌜ r ≡ doorRead (now (state .entry)) (λ d. d .frame) ⌝ }
+{
+    if state.len() != STATE_LEN {
+        return 0;
+    }
+    taken(state).frame_number()
+}
+
+#[no_mangle]
+pub extern "C" fn spoonwing_display_output_width(state: &[u8]) -> u32
+    ensures { λ r. ⌜ r ≡ doorRead (now (state .entry)) (λ d. widthOf (d .active)) ⌝ }
+{
+    if state.len() != STATE_LEN {
+        return 0;
+    }
+    taken(state).output_width() as u32
+}
+
+#[no_mangle]
+pub extern "C" fn spoonwing_display_output_height(state: &[u8]) -> u32
+    ensures { λ r. ⌜ r ≡ doorRead (now (state .entry)) (λ d. heightOf (d .active)) ⌝ }
+{
+    if state.len() != STATE_LEN {
+        return 0;
+    }
+    taken(state).output_height() as u32
+}

@@ -1,0 +1,132 @@
+-- A state put back and taken apart again is the state, so that a row of calls through doors on one lent
+-- state is the row of the display's calls. Assumes nothing.
+use mathlib.Core.Path.{_≡_, refl, sym, ap, ap₂, _∙_}
+use mathlib.Core.Bool.{Bool, true, false}
+use mathlib.Core.List.{List, [], _∷_}
+use Prim.Native.Nat.{ℕ, _+_, _*_, _^_, _≤_, _<_}
+use native.Mathlib.Omega.{arith}
+use borrow.Author.Tests.{eq-eqb}
+use lib.Dec.{ltb}
+use lib.ListN.{length, getD, replicate}
+use Rattle.lists.specs.Little.{littleAt}
+use Rattle.lists.specs.Bytes.{littleByte, littleBytes}
+use Rattle.lists.specs.Tab.{tab}
+use Rattle.lists.proofs.Tab.{length-tab, is-tab}
+use Rattle.lists.proofs.Little.{word-back}
+use Rattle.words.specs.Image.{wordsFrom}
+use Rattle.display.specs.declared.Display.{Display}
+use Rattle.display.specs.declared.Told.{Told}
+use Rattle.display.specs.State.{display, selectionOf, fresh}
+use Rattle.display.specs.Doors.{stateLen, takenOf, flag, lastWords, stateWords, stateBytes, doorAnswer, doorState}
+use Rattle.display.specs.Doors.{doorBuffer, doorRead}
+use Rattle.display.proofs.DoorLaws.{taken-all, in-pending, in-active, in-last}
+use Rattle.doors.specs.Rows.{AreWords, Fits, Holds, Ask, Typed, AllTyped, tellsOf, lentTo, leftBy, Seen, seenOf}
+use Rattle.doors.specs.Rows.{stateAfter, seenAfter, bytesAfter, seenByC}
+use Rattle.doors.proofs.Fits.{taken-fits, fresh-fits, call-fits}
+
+-- ---- what was put back, taken apart
+
+-- 52 words from word k of a row on
+words-back : (w u : List ℕ) (k n o : ℕ) → o ≡ 4 * k → 4 * k + 208 ≤ n → length u ≡ 52 → AreWords u
+    → ((i : ℕ) → i < 52 → getD u i 0 ≡ getD w (k + i) 0) → u ≡ wordsFrom (tab n (littleBytes w)) o
+unfolding wordsFrom
+words-back w u k n o at b long h e =
+    is-tab u 52 (λ i. littleAt (tab n (littleBytes w)) (o + 4 * i)) long
+    (λ i lt. let q : getD w (k + i) 0 < 2 ^ 32 = rw (← e i lt) (h i) in
+    e i lt ∙ sym (word-back w (k + i) n (o + 4 * i) (omega arith) (omega arith) q))
+
+flag-back : (b : Bool) → b ≡ ltb 0 (flag b)
+flag-back true = refl
+flag-back false = refl
+
+flag-fits : (b : Bool) → flag b < 2 ^ 32
+flag-fits true = omega arith
+flag-fits false = omega arith
+
+pub taken-back : (d : Display) → Fits d → takenOf (stateBytes d) ≡ d
+unfolding stateBytes lastWords
+taken-back d f =
+    let w = stateWords d in
+    let one : (i o v : ℕ) → o ≡ 416 + 4 * i → i < 5 → v ≡ getD w (104 + i) 0 → v < 2 ^ 32
+    → v ≡ littleAt (tab 436 (littleBytes w)) o
+    = λ i o v at b e h. e ∙ sym (word-back w (104 + i) 436 o (omega arith) (omega arith) (rw (← e) h)) in
+    let r = in-last d (f .pending) (f .active) in
+    sym (taken-all (stateBytes d) (d .pending) (d .active) (d .frame) (d .errors) (flag (d .selection .made))
+    (d .selection .number) (d .selection .place)
+    (words-back w (d .pending) 0 436 0 refl (omega arith) (f .pending) (f .pending-words)
+    (λ i h. in-pending d (f .pending) i h ∙ ap (λ (n : ℕ). getD w n 0) (let q : i ≡ 0 + i = omega arith in q)))
+    (words-back w (d .active) 52 436 208 refl (omega arith) (f .active) (f .active-words)
+    (in-active d (f .pending) (f .active)))
+    (one 0 416 (d .frame) refl (omega arith) (r 0) (f .frame))
+    (one 1 420 (d .errors) refl (omega arith) (r 1) (f .errors))
+    (one 2 424 (flag (d .selection .made)) refl (omega arith) (r 2) (flag-fits (d .selection .made)))
+    (one 3 428 (d .selection .number) refl (omega arith) (r 3) (f .number))
+    (one 4 432 (d .selection .place) refl (omega arith) (r 4) (f .place)))
+    ∙ ap (λ (b : Bool). display (d .pending) (d .active) (d .frame) (d .errors)
+    (selectionOf b (d .selection .number) (d .selection .place)))
+    (sym (flag-back (d .selection .made)))
+
+pub length-bytes : (d : Display) → length (stateBytes d) ≡ stateLen
+unfolding stateBytes
+length-bytes d = length-tab stateLen (littleBytes (stateWords d))
+
+-- zeros are the fresh state
+pub bytes-fresh : stateBytes fresh ≡ replicate stateLen 0
+unfolding stateBytes stateWords lastWords littleBytes littleByte tab
+bytes-fresh = refl
+
+pub holds-fresh : Holds (replicate stateLen 0) fresh
+holds-fresh = record { bytes = sym bytes-fresh; fits = fresh-fits }
+
+-- ---- a door of a state that is held
+
+module _ (s : List ℕ) (d : Display) (h : Holds s d) where
+  held : takenOf s ≡ d
+  held = ap takenOf (h .bytes) ∙ taken-back d (h .fits)
+
+  long : length s ≡ stateLen
+  long = ap length (h .bytes) ∙ length-bytes d
+
+  pub answer-held : (call : Display → Told) → doorAnswer s call ≡ call d .answer
+  unfolding doorAnswer
+  answer-held call = rw (eq-eqb _ _ long) (ap (λ (x : Display). call x .answer) held)
+
+  pub state-held : (call : Display → Told) → doorState s call ≡ stateBytes (call d .state)
+  unfolding doorState
+  state-held call = rw (eq-eqb _ _ long) (ap (λ (x : Display). stateBytes (call x .state)) held)
+
+  pub buffer-held : (after : Display → List ℕ) (before : List ℕ) → doorBuffer s after before ≡ after d
+  unfolding doorBuffer
+  buffer-held after before = rw (eq-eqb _ _ long) (ap after held)
+
+  -- what is read through a door is what the display's own call reads
+  pub read-held : (read : Display → ℕ) → doorRead s read ≡ read d
+  unfolding doorRead
+  read-held read = rw (eq-eqb _ _ long) (ap read held)
+
+  pub call-held : (a : Ask) → Typed a → Holds (doorState s (tellsOf a)) (tellsOf a d .state)
+  call-held a t = record { bytes = state-held (tellsOf a); fits = call-fits d (h .fits) a t }
+
+-- ---- every byte string of the right length
+
+-- whatever bytes are lent, the call is the display's on the state that they stand for, and from then on the
+-- lent state holds a display
+pub any-held : (s : List ℕ) → length s ≡ stateLen → ((i : ℕ) → getD s i 0 < 256) → (a : Ask) → Typed a
+    → Holds (doorState s (tellsOf a)) (tellsOf a (takenOf s) .state)
+unfolding doorState
+any-held s l b a t = record { bytes = rw (eq-eqb _ _ l); fits = call-fits (takenOf s) (taken-fits s b) a t }
+
+-- ---- calls in a row
+
+pub row-held : (row : List Ask) (s : List ℕ) (d : Display) → Holds s d → AllTyped row
+    → Holds (bytesAfter row s) (stateAfter row d)
+row-held [] s d h t = h
+row-held (a ∷ rest) s d h t = row-held rest (doorState s (tellsOf a)) (tellsOf a d .state) (call-held s d h a (t .0))
+    (t .1)
+
+pub row-seen : (row : List Ask) (s : List ℕ) (d : Display) → Holds s d → AllTyped row → seenByC row s ≡ seenAfter row d
+row-seen [] s d h t = refl
+row-seen (a ∷ rest) s d h t =
+    ap₂ (λ (x : Seen) (l : List Seen). x ∷ l)
+    (ap₂ seenOf (answer-held s d h (tellsOf a)) (buffer-held s d h (leftBy a) (lentTo a)))
+    (row-seen rest (doorState s (tellsOf a)) (tellsOf a d .state) (call-held s d h a (t .0)) (t .1))

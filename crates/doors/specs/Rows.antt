@@ -1,0 +1,133 @@
+-- Calls in a row on one lent state, by C through the doors and by Rattle on a display. Assumes nothing.
+use Prim.Native.Nat.{ℕ, _^_, _<_}
+use mathlib.Core.Path.{_≡_}
+use mathlib.Core.List.{List, [], _∷_}
+use lib.ListN.{length, getD}
+use Rattle.answers.specs.Answers.{done}
+use Rattle.display.specs.declared.Display.{Display}
+use Rattle.display.specs.declared.Told.{Told}
+use Rattle.display.specs.State.{fresh, told, writeOf, selectOf, toggleOf, startOf}
+use Rattle.display.specs.Put.{putOf, putTables}
+use Rattle.display.specs.Paint.{fillTold, fillBytes, paintTold, paintBytes, frameTold, frameBytes}
+use Rattle.display.specs.Doors.{stateBytes, doorAnswer, doorState, doorBuffer}
+
+-- ---- a state and its bytes
+
+-- each number of a list is below 2^32
+abbrev pub AreWords : List ℕ → Type 0
+AreWords l = (i : ℕ) → getD l i 0 < 2 ^ 32
+
+-- a state whose numbers fit their words, as the types of its parts have it
+pub record Fits (d : Display) : Type 0 where
+  pub pending : length (d .pending) ≡ 52
+  pub active : length (d .active) ≡ 52
+  pub pending-words : AreWords (d .pending)
+  pub active-words : AreWords (d .active)
+  pub frame : d .frame < 2 ^ 32
+  pub errors : d .errors < 2 ^ 32
+  pub number : d .selection .number < 2 ^ 32
+  pub place : d .selection .place < 2 ^ 32
+
+-- lent bytes that hold a display
+pub record Holds (s : List ℕ) (d : Display) : Type 0 where
+  pub bytes : s ≡ stateBytes d
+  pub fits : Fits d
+
+-- ---- a call, by the values of its arguments
+
+-- each call that changes a state or a buffer
+pub data Ask : Type 0 where
+  ask-new : Ask
+  ask-write : (register value : ℕ) → Ask
+  ask-select : (selection : ℕ) → Ask
+  ask-toggle : (bits : ℕ) → Ask
+  ask-start : Ask
+  ask-put : (tables : List ℕ) (byte : ℕ) → Ask
+  ask-fill : (out : List ℕ) → Ask
+  ask-paint : (low high : ℕ) (tables pictures out : List ℕ) → Ask
+  ask-frame : (tables pictures out : List ℕ) → Ask
+
+-- numbers that become a part of the state have 32 bits, as their types have it
+abbrev pub Typed : Ask → Type 0
+Typed (ask-write register value) = value < 2 ^ 32
+Typed (ask-toggle bits) = bits < 2 ^ 32
+Typed ask-new = Unit {0}
+Typed (ask-select selection) = Unit {0}
+Typed ask-start = Unit {0}
+Typed (ask-put tables byte) = Unit {0}
+Typed (ask-fill out) = Unit {0}
+Typed (ask-paint low high tables pictures out) = Unit {0}
+Typed (ask-frame tables pictures out) = Unit {0}
+
+-- what the display's call answers and leaves of the state
+abbrev pub tellsOf : Ask → Display → Told
+tellsOf ask-new d = told fresh done
+tellsOf (ask-write register value) d = writeOf d register value
+tellsOf (ask-select selection) d = selectOf d selection
+tellsOf (ask-toggle bits) d = toggleOf d bits
+tellsOf ask-start d = startOf d
+tellsOf (ask-put tables byte) d = putOf d tables
+tellsOf (ask-fill out) d = fillTold d out
+tellsOf (ask-paint low high tables pictures out) d = paintTold d low high tables pictures out
+tellsOf (ask-frame tables pictures out) d = frameTold d tables pictures out
+
+-- the buffer that it writes, as it is lent; none is an empty one
+abbrev pub lentTo : Ask → List ℕ
+lentTo ask-new = []
+lentTo (ask-write register value) = []
+lentTo (ask-select selection) = []
+lentTo (ask-toggle bits) = []
+lentTo ask-start = []
+lentTo (ask-put tables byte) = tables
+lentTo (ask-fill out) = out
+lentTo (ask-paint low high tables pictures out) = out
+lentTo (ask-frame tables pictures out) = out
+
+-- and as the call leaves it
+abbrev pub leftBy : Ask → Display → List ℕ
+leftBy ask-new d = []
+leftBy (ask-write register value) d = []
+leftBy (ask-select selection) d = []
+leftBy (ask-toggle bits) d = []
+leftBy ask-start d = []
+leftBy (ask-put tables byte) d = putTables d tables byte
+leftBy (ask-fill out) d = fillBytes d out
+leftBy (ask-paint low high tables pictures out) d = paintBytes d low high tables pictures out
+leftBy (ask-frame tables pictures out) d = frameBytes d tables pictures out
+
+-- ---- a row of calls
+
+-- what is seen of one: its answer, and the buffer that it writes
+pub record Seen : Type 0 where
+  pub answer : ℕ
+  pub buffer : List ℕ
+
+-- one made of its two parts
+abbrev pub seenOf : ℕ → List ℕ → Seen
+seenOf answer buffer = record { answer = answer; buffer = buffer }
+
+-- the state that a row of the display's calls leaves
+abbrev pub stateAfter : List Ask → Display → Display
+stateAfter [] d = d
+stateAfter (a ∷ rest) d = stateAfter rest (tellsOf a d .state)
+
+-- and what is seen of each
+abbrev pub seenAfter : List Ask → Display → List Seen
+seenAfter [] d = []
+seenAfter (a ∷ rest) d = seenOf (tellsOf a d .answer) (leftBy a d) ∷ seenAfter rest (tellsOf a d .state)
+
+-- the bytes that a row of calls through doors leaves
+abbrev pub bytesAfter : List Ask → List ℕ → List ℕ
+bytesAfter [] s = s
+bytesAfter (a ∷ rest) s = bytesAfter rest (doorState s (tellsOf a))
+
+-- and what C sees of each
+abbrev pub seenByC : List Ask → List ℕ → List Seen
+seenByC [] s = []
+seenByC (a ∷ rest) s =
+    seenOf (doorAnswer s (tellsOf a)) (doorBuffer s (leftBy a) (lentTo a)) ∷ seenByC rest (doorState s (tellsOf a))
+
+-- a row whose numbers all have 32 bits
+abbrev pub AllTyped : List Ask → Type 0
+AllTyped [] = Unit {0}
+AllTyped (a ∷ rest) = Typed a × AllTyped rest

@@ -1,0 +1,119 @@
+/* A C host that keeps a display: it loads a caption into banks that are not shown, has a start turn
+ * them over, and paints the frame in two bands, the water and then the caption over it.
+ *
+ *     caption                  writes the frame to standard output, as a PPM
+ *     caption --inputs DIR     also writes into DIR what the calls were given and what they left */
+#include <stdio.h>
+#include <stdlib.h>
+#include <string.h>
+
+#include "files.h"
+#include "pictures.h"
+#include "registers.h"
+#include "spoonwing.h"
+#include "tables.h"
+
+enum { WIDTH = WATER_WIDTH, HEIGHT = WATER_HEIGHT };
+
+/* Layers by number; the controller of a graphics layer has its number. */
+enum { CAPTION, WATER, LAYERS };
+
+static const struct layer SCENE[LAYERS] = {
+    [WATER] = {.depth = 1, .width = WATER_WIDTH, .height = WATER_HEIGHT},
+    [CAPTION] = {.is_graphics = 1, .depth = 6, .x = 140, .y = 70, .width = 360, .height = 52},
+};
+
+/* The display, and what is lent to its calls. */
+static uint8_t state[SPOONWING_STATE_LEN], tables[SPOONWING_TABLES_LENGTH];
+static uint8_t pictures[PIXEL * WATER_WIDTH * WATER_HEIGHT], output[PIXEL * WIDTH * HEIGHT];
+static uint8_t image[SPOONWING_IMAGE_LENGTH]; /* the registers as they are written */
+
+/* Ends the program where a call is refused. */
+static void done(uint32_t answer)
+{
+    if (answer == SPOONWING_DONE)
+        return;
+    fprintf(stderr, "caption: %u: %s\n", (unsigned)answer, spoonwing_refusal(answer));
+    exit(1);
+}
+
+/* Puts a table of the caption, byte by byte, into bank 1: a fresh display shows bank 0. */
+static void load(uint32_t kind, const uint8_t *bytes, size_t length)
+{
+    done(spoonwing_display_select(state, sizeof state, CAPTION << 3 | kind << 1 | 1));
+    for (size_t i = 0; i < length; i++)
+        done(spoonwing_display_put(state, sizeof state, tables, sizeof tables, bytes[i]));
+}
+
+static void load_caption(void)
+{
+    enum { PANE, FRAME, WORDS };
+    static const uint8_t glass[] = {6, 34, 46, 190}, foam[] = {160, 214, 210, 255},
+                         cream[] = {255, 244, 222, 255};
+    static uint8_t drawn[BANK_LENGTH];
+    struct bank bank = first_bank(drawn, 0);
+    set_colour(&bank, PANE, glass);
+    set_colour(&bank, FRAME, foam);
+    set_colour(&bank, WORDS, cream);
+    draw_box(&bank, 0, 0, SCENE[CAPTION].width, SCENE[CAPTION].height, 2, FRAME);
+    draw_text(&bank, 14, 10, SCALE_2, WORDS, "The river at dusk");
+    draw_text(&bank, 14, 34, SCALE_1, FRAME, "one state, two banks, two bands");
+    load(0, drawn, COLOURS_AT);
+    load(1, drawn + COLOURS_AT, STRINGS_AT - COLOURS_AT);
+    load(2, drawn + STRINGS_AT, FONT_AT - STRINGS_AT);
+    load(3, drawn + FONT_AT, BANK_LENGTH - FONT_AT);
+}
+
+/* One byte more than the font has: it is refused and sets a bit of the error word. */
+static void put_too_many(void)
+{
+    uint32_t answer = spoonwing_display_put(state, sizeof state, tables, sizeof tables, 0);
+    uint32_t errors = spoonwing_display_error_word(state, sizeof state);
+    fprintf(stderr, "caption: %u: %s\n", (unsigned)answer, spoonwing_refusal(answer));
+    fprintf(stderr, "caption: the error word is %X, and is cleared\n", (unsigned)errors);
+    done(spoonwing_display_toggle(state, sizeof state, errors));
+}
+
+static void write_registers(void)
+{
+    enum { DISPLAY_ON = 1, UPDATE = 4 };
+    static const uint8_t ground[] = {30, 62, 88};
+    put_screen(image, WIDTH, HEIGHT, ground);
+    for (int n = 0; n < LAYERS; n++)
+        put_layer(image, n, &SCENE[n]);
+    put_word(image, DISPLAY_ON | UPDATE);
+    put_word(image + 4 * 3, UINT32_C(0x01010101) << CAPTION); /* bank 1 of all four kinds */
+    for (uint32_t i = 0; i < SPOONWING_IMAGE_LENGTH / 4; i++)
+        done(spoonwing_display_write(state, sizeof state, i, word_at(image + 4 * i)));
+}
+
+static void paint(uint32_t low, uint32_t high)
+{
+    done(spoonwing_display_paint(state, sizeof state, low, high, tables, sizeof tables, pictures,
+                                 sizeof pictures, output, sizeof output));
+}
+
+static int write_inputs(const char *folder)
+{
+    return write_file(folder, "image.bin", image, sizeof image) &&
+           write_file(folder, "tables.bin", tables, sizeof tables) &&
+           write_file(folder, "pictures.bin", pictures, sizeof pictures) &&
+           write_file(folder, "state.bin", state, sizeof state) &&
+           write_file(folder, "output.bin", output, sizeof output);
+}
+
+int main(int count, char **words)
+{
+    paint_water(pictures);
+    done(spoonwing_display_new(state, sizeof state));
+    load_caption();
+    put_too_many();
+    write_registers();
+    done(spoonwing_display_start(state, sizeof state));
+    done(spoonwing_display_fill(state, sizeof state, output, sizeof output));
+    paint(0, 4);
+    paint(4, 8);
+    if (count == 3 && strcmp(words[1], "--inputs") == 0 && !write_inputs(words[2]))
+        return 1;
+    return write_picture(output, WIDTH, HEIGHT) ? 0 : 1;
+}

@@ -1,0 +1,27 @@
+/* Writing by the C library alone. */
+#include <stdio.h>
+
+#include "files.h"
+#include "pictures.h"
+
+int write_file(const char *folder, const char *name, const uint8_t *bytes, size_t length)
+{
+    char path[4096];
+    int fits = snprintf(path, sizeof path, "%s/%s", folder, name) < (int)sizeof path;
+    FILE *file = fits ? fopen(path, "wb") : NULL;
+    int is_written = file && fwrite(bytes, 1, length, file) == length;
+    if (file && fclose(file) != 0)
+        is_written = 0;
+    if (!is_written)
+        fprintf(stderr, "%s/%s is not written\n", folder, name);
+    return is_written;
+}
+
+/* A PPM has no alpha byte; the output's is 255 in every pixel. */
+int write_picture(const uint8_t *output, int width, int height)
+{
+    printf("P6\n%d %d\n255\n", width, height);
+    for (int i = 0; i < width * height; i++)
+        fwrite(output + PIXEL * i, 1, PIXEL - 1, stdout);
+    return fflush(stdout) == 0 && !ferror(stdout);
+}

@@ -1,0 +1,283 @@
+//! Rows of calls from C on one state, right ones and wrong ones, from states of every kind on.
+
+use crate::answers::DONE;
+use crate::cases::calls::{odd_band, wish};
+use crate::cases::scene::{controller, pictures, spoil};
+use crate::cases::{banks, damage, hosts};
+use crate::display::Display;
+use crate::doors::*;
+use crate::rng::Rng;
+use crate::state::{read_state, PLACE_AT, SELECTED_AT, SELECTION_AT, STATE_LEN};
+use crate::tables::{Bank, Kind, TABLES_LEN};
+use crate::words::WORDS;
+
+/// The rows that the tests compare unless told otherwise, of the seeds from 0 on.
+pub const ROWS: u64 = 500;
+
+/// A row, a short one or a long one. It is made up of short runs, each going on from what the calls
+/// before it left.
+pub fn gen_row(seed: u64) -> Vec<Step> {
+    // Kept apart from the other cases' seeds.
+    let mut author = Author::new(seed ^ 0x646F_6F72);
+    let most = if author.rng.percent(40) { author.rng.range(1, 8) } else { 120 };
+    author.begin();
+    while author.calls < most {
+        match author.rng.below(40) {
+            0..=6 => author.set_up(),
+            7..=13 => author.load(),
+            14..=29 => author.paint(),
+            30 | 31 => author.toggle(),
+            32..=34 => author.read(),
+            35..=37 => author.damage(),
+            38 => drop(author.call(Door::New, 0, 0)),
+            _ => author.lend_wrong_state(),
+        }
+    }
+    author.steps
+}
+
+struct Author {
+    rng: Rng,
+    stage: Stage,
+    steps: Vec<Step>,
+    calls: i64,
+}
+
+impl Author {
+    fn new(seed: u64) -> Author {
+        Author { rng: Rng::new(seed), stage: Stage::new(), steps: Vec::new(), calls: 0 }
+    }
+
+    /// The state that the bytes stand for now.
+    fn display(&self) -> Display {
+        read_state(&self.stage.rooms[STATE][..STATE_LEN]).expect("it is whole")
+    }
+
+    // ---- steps
+
+    fn store(&mut self, buffer: usize, bytes: Vec<u8>) {
+        let step = Step::Store { buffer, bytes };
+        self.stage.play(&step);
+        self.steps.push(step);
+    }
+
+    /// A call that is lent what it needs, or now and then another length near that.
+    fn call(&mut self, door: Door, a: u32, b: u32) -> u32 {
+        if door != Door::Write && self.rng.percent(10) {
+            self.spell_anew();
+        }
+        let active = self.display().active().clone();
+        let right =
+            [STATE_LEN, TABLES_LEN, length(active.pictures_len()), length(active.output_len())];
+        self.call_with(door, a, b, right)
+    }
+
+    fn call_with(&mut self, door: Door, a: u32, b: u32, right: [usize; BUFFERS]) -> u32 {
+        let rng = &mut self.rng;
+        let mut lent = [Lent::default(); BUFFERS];
+        for buffer in (0..BUFFERS).filter(|&buffer| door.takes(buffer)) {
+            let right = right[buffer];
+            let near = [0, right.saturating_sub(1), right + 1, right + 4];
+            let is_wrong = buffer != STATE && rng.percent(5);
+            let length = if is_wrong { rng.pick(&near) } else { right };
+            lent[buffer] = Lent { length: length.min(ROOM), past: rng.below(16) };
+        }
+        let step = Step::Call { door, a, b, lent, null: rng.percent(50) };
+        let told = self.stage.play(&step).expect("it is a call");
+        self.steps.push(step);
+        // A scene may have fifty writes.
+        self.calls += i64::from(door != Door::Write);
+        told.answer
+    }
+
+    /// The same state by other bytes: where something is selected, any number but 0 says so.
+    fn spell_anew(&mut self) {
+        let mut state = self.stage.rooms[STATE][..STATE_LEN].to_vec();
+        let selected = &mut state[SELECTED_AT..SELECTION_AT];
+        if selected.iter().any(|&byte| byte != 0) {
+            let other: u32 = self.rng.pick(&[2, 7, 256, 1 << 31, u32::MAX]);
+            selected.copy_from_slice(&other.to_le_bytes());
+            self.store(STATE, state);
+        }
+    }
+
+    /// Any call at all on a state of a wrong length, with what would be right beside it.
+    fn lend_wrong_state(&mut self) {
+        let door = self.rng.pick(&Door::ALL);
+        let (a, b) = (self.rng.u32(), self.rng.u32());
+        let few = self.rng.percent(50);
+        let (a, b) = if few { (a % 9, b % 9) } else { (a, b) };
+        let state = self.rng.pick(&[0, 0, 4, 208, 416, 432, 435, 437, 440, 872]);
+        let active = self.display().active().clone();
+        let right = [state, TABLES_LEN, length(active.pictures_len()), length(active.output_len())];
+        self.call_with(door, a, b, right);
+    }
+
+    // ---- runs
+
+    /// A fresh state by zeros or by a call, or a damaged one.
+    fn begin(&mut self) {
+        match self.rng.below(10) {
+            0 | 1 => {}
+            2..=4 => {
+                let bytes = self.rng.bytes(STATE_LEN);
+                self.store(STATE, bytes);
+                self.call(Door::New, 0, 0);
+            }
+            _ => self.damage(),
+        }
+        if self.rng.percent(60) {
+            self.store_tables();
+        }
+    }
+
+    /// A damaged state, and as a rule any call on it at once: the first call puts some of it right.
+    fn damage(&mut self) {
+        let bytes = damage::state(&mut self.rng);
+        self.store(STATE, bytes);
+        if self.rng.percent(80) {
+            self.any_call();
+        }
+    }
+
+    /// Any call that writes, with numbers at their edges.
+    fn any_call(&mut self) {
+        let rng = &mut self.rng;
+        let any = rng.u32();
+        let (door, a, b) = match rng.below(9) {
+            0 => (Door::Write, rng.pick(&[0, 1, 3, 51, 52, u32::MAX]), any),
+            1 => (Door::Select, rng.pick(&[0, 1, 63, 64, u32::MAX]), 0),
+            2 => (Door::Toggle, any, 0),
+            3 => (Door::Start, 0, 0),
+            4 => (Door::Put, any % 256, 0),
+            5 => (Door::Fill, 0, 0),
+            6 | 7 => {
+                let (low, high) = if rng.percent(70) { (0, 8) } else { odd_band(rng) };
+                (Door::Paint, low, high)
+            }
+            _ => (Door::Frame, 0, 0),
+        };
+        self.call(door, a, b);
+    }
+
+    fn store_tables(&mut self) {
+        let display = self.display();
+        let tables = hosts::tables(&mut self.rng, display.active());
+        self.store(TABLES, tables);
+    }
+
+    /// Writes the words of a scene and starts it; some of the words are faulty.
+    fn set_up(&mut self) {
+        let display = self.display();
+        let mut wish = wish(&mut self.rng, &display);
+        if self.rng.percent(30) {
+            let fault = self.rng.range(7, 11) as u32;
+            spoil(&mut self.rng, &mut wish, fault);
+        }
+        if self.rng.percent(10) {
+            wish.0[0] &= !0b100;
+        }
+        let pending = display.pending();
+        for register in (0..WORDS).filter(|&i| pending.0[i] != wish.0[i]) {
+            self.call(Door::Write, register as u32, wish.0[register]);
+        }
+        if self.rng.percent(20) {
+            let register = self.rng.pick(&[52, 53, 255, 256, u32::MAX]);
+            let value = self.rng.u32();
+            self.call(Door::Write, register, value);
+        }
+        for _ in 0..self.rng.range(1, 2) {
+            self.call(Door::Start, 0, 0);
+        }
+    }
+
+    /// Stores all tables as their owner may, or puts some bytes.
+    fn load(&mut self) {
+        if self.rng.percent(30) {
+            self.store_tables();
+            return;
+        }
+        let display = self.display();
+        let kind = self.rng.pick(&Kind::ALL);
+        let g = controller(&mut self.rng, display.active());
+        let layer = display.active().layer(g);
+        let bytes = banks::bank(&mut self.rng, kind, layer.width.max(1), layer.height.max(1));
+        self.select(kind, g);
+        if self.rng.percent(40) {
+            self.go_to_end(kind);
+        }
+        let count = if kind == Kind::Colour { 70 } else { 16 };
+        let mut refused = 0;
+        for &byte in bytes.iter().cycle().take(1 + self.rng.below(count)) {
+            refused += u32::from(self.call(Door::Put, byte.into(), 0) != DONE);
+            // A few more after a refusal show that it left the place; many would show no more.
+            if refused > 2 {
+                return;
+            }
+        }
+    }
+
+    /// Selects a bank, mostly an idle one, or leaves what is selected; at times what is no bank.
+    fn select(&mut self, kind: Kind, g: usize) {
+        let active = self.display().active().bank(kind, g);
+        let bank = Bank { g, kind, b: if self.rng.percent(85) { 1 - active } else { active } };
+        if !self.rng.percent(15) {
+            let selection = bank.selection() + self.rng.pick(&[0, 0, 0, 0, 0, 0, 64, 0x1_0000]);
+            self.call(Door::Select, selection, 0);
+        }
+    }
+
+    /// Moves the place near the end of a kind, as many puts would.
+    fn go_to_end(&mut self, kind: Kind) {
+        let mut state = self.stage.rooms[STATE][..STATE_LEN].to_vec();
+        let place = kind.end() as u32 - self.rng.below(4) as u32;
+        state[PLACE_AT..].copy_from_slice(&place.to_le_bytes());
+        self.store(STATE, state);
+    }
+
+    fn toggle(&mut self) {
+        let errors = self.display().errors();
+        let bits = self.rng.pick(&[errors, errors, 0, 1, 0x11, 0x2222_2222, u32::MAX, 1 << 31]);
+        self.call(Door::Toggle, bits, 0);
+    }
+
+    fn read(&mut self) {
+        for door in Door::ALL.into_iter().filter(|door| door.is_read()) {
+            self.call(door, 0, 0);
+        }
+    }
+
+    /// A whole frame, or a fill and bands over it, or bands over whatever the output holds.
+    fn paint(&mut self) {
+        let active = self.display().active().clone();
+        if self.rng.percent(50) {
+            let bytes = pictures(&mut self.rng, length(active.pictures_len()));
+            self.store(PICTURES, bytes);
+        }
+        if self.rng.percent(40) {
+            let bytes = self.rng.bytes(length(active.output_len()));
+            self.store(OUTPUT, bytes);
+        }
+        if self.rng.percent(40) {
+            self.call(Door::Frame, 0, 0);
+            return;
+        }
+        if self.rng.percent(50) {
+            self.call(Door::Fill, 0, 0);
+        }
+        let middle = self.rng.range(0, 8) as u32;
+        for (low, high) in [(0, middle), (middle, 8), odd_band(&mut self.rng)] {
+            self.call(Door::Paint, low, high);
+        }
+    }
+}
+
+/// What is lent for a right length: that, or something short where it is more than there is room
+/// for.
+fn length(right: i64) -> usize {
+    if right > ROOM as i64 {
+        64
+    } else {
+        right as usize
+    }
+}

@@ -1,0 +1,212 @@
+//! The thirteen calls of the display from C, each on lent bytes, and rows of such calls: what the
+//! owner of the buffers stores in them, what is lent to each call, and what a call tells.
+
+use crate::answers::{DONE, WRONG_STATE};
+use crate::display::Display;
+use crate::state::{read_state, state_bytes};
+
+#[derive(Clone, Copy, Debug, PartialEq, Eq)]
+pub enum Door {
+    New,
+    Write,
+    Select,
+    Toggle,
+    Start,
+    Put,
+    Fill,
+    Paint,
+    Frame,
+    ErrorWord,
+    FrameNumber,
+    OutputWidth,
+    OutputHeight,
+}
+
+/// The buffers by number.
+pub const STATE: usize = 0;
+pub const TABLES: usize = 1;
+pub const PICTURES: usize = 2;
+pub const OUTPUT: usize = 3;
+pub const BUFFERS: usize = 4;
+
+impl Door {
+    pub const ALL: [Door; 13] = [
+        Door::New,
+        Door::Write,
+        Door::Select,
+        Door::Toggle,
+        Door::Start,
+        Door::Put,
+        Door::Fill,
+        Door::Paint,
+        Door::Frame,
+        Door::ErrorWord,
+        Door::FrameNumber,
+        Door::OutputWidth,
+        Door::OutputHeight,
+    ];
+
+    pub fn is_read(self) -> bool {
+        self as u32 >= Door::ErrorWord as u32
+    }
+
+    /// Whether a call is lent that buffer.
+    pub fn takes(self, buffer: usize) -> bool {
+        match buffer {
+            STATE => true,
+            TABLES => matches!(self, Door::Put | Door::Paint | Door::Frame),
+            PICTURES => matches!(self, Door::Paint | Door::Frame),
+            _ => matches!(self, Door::Fill | Door::Paint | Door::Frame),
+        }
+    }
+}
+
+/// The bytes that are lent to one call.
+pub struct LentBytes<'a> {
+    pub state: &'a mut [u8],
+    pub tables: &'a mut [u8],
+    pub pictures: &'a [u8],
+    pub out: &'a mut [u8],
+}
+
+/// One call, with its one or two numbers: register and value, selection, bits, byte, or the ends of
+/// a band. "A state of another length: answer 23, everything unchanged; the reads give 0 then."
+pub fn call(door: Door, a: u32, b: u32, lent: LentBytes) -> u32 {
+    let LentBytes { state, tables, pictures, out } = lent;
+    let Some(mut display) = read_state(state) else {
+        return if door.is_read() { 0 } else { WRONG_STATE };
+    };
+    let answer = match door {
+        Door::New => {
+            display = Display::new();
+            DONE
+        }
+        Door::Write => display.write(a, b),
+        Door::Select => display.select(a),
+        Door::Toggle => display.toggle(a),
+        Door::Start => display.start(),
+        Door::Put => display.put(tables, a as u8),
+        Door::Fill => display.fill(out),
+        Door::Paint => display.paint(a, b, tables, pictures, out),
+        Door::Frame => display.frame(tables, pictures, out),
+        Door::ErrorWord => return display.errors(),
+        Door::FrameNumber => return display.frame_number(),
+        Door::OutputWidth => return display.width() as u32,
+        Door::OutputHeight => return display.height() as u32,
+    };
+    state.copy_from_slice(&state_bytes(&display));
+    answer
+}
+
+// ---- rows
+
+/// How many bytes each buffer's owner has; a call is lent some of them, from the first on.
+pub const ROOM: usize = 1 << 17;
+
+/// So many bytes, the first of them that far past an address that sixteen divides.
+#[derive(Clone, Copy, Debug, Default, PartialEq, Eq)]
+pub struct Lent {
+    pub length: usize,
+    pub past: usize,
+}
+
+/// A step of a row.
+#[derive(Clone, Debug, PartialEq, Eq)]
+pub enum Step {
+    /// The owner of a buffer stores these bytes in it, from the first on.
+    Store { buffer: usize, bytes: Vec<u8> },
+    /// A call. What it does not take has the length 0.
+    Call {
+        door: Door,
+        a: u32,
+        b: u32,
+        lent: [Lent; BUFFERS],
+        /// Whether a buffer of no bytes is passed as NULL.
+        null: bool,
+    },
+}
+
+impl Step {
+    /// As `display_calls.c` reads it, with the bytes that are stored.
+    pub fn record(&self) -> Vec<u8> {
+        const STORE: u32 = Door::ALL.len() as u32;
+        match self {
+            Step::Store { buffer, bytes } => {
+                let numbers = [STORE, *buffer as u32, bytes.len() as u32, 0];
+                [record(numbers, &Default::default()), bytes.clone()].concat()
+            }
+            Step::Call { door, a, b, lent, null } => {
+                record([*door as u32, *a, *b, u32::from(*null)], lent)
+            }
+        }
+    }
+}
+
+/// The record that begins a row: all buffers are zero again.
+pub fn begin_record() -> Vec<u8> {
+    const BEGIN: u32 = Door::ALL.len() as u32 + 1;
+    record([BEGIN, 0, 0, 0], &Default::default())
+}
+
+/// Twelve little-endian numbers.
+fn record(numbers: [u32; 4], lent: &[Lent; BUFFERS]) -> Vec<u8> {
+    let lengths = lent.iter().map(|lent| lent.length as u32);
+    let past = lent.iter().map(|lent| lent.past as u32);
+    numbers.into_iter().chain(lengths).chain(past).flat_map(u32::to_le_bytes).collect()
+}
+
+/// What is seen of a call.
+#[derive(Clone, Debug, PartialEq, Eq)]
+pub struct Told {
+    pub answer: u32,
+    /// Whether a byte was touched that no call may touch: beside a buffer, or of an input.
+    pub is_touched: bool,
+    /// All bytes that are lent as the state.
+    pub state: Vec<u8>,
+    /// Each byte of the tables that is another one now, with its place; all others stay.
+    pub changes: Vec<(u32, u8)>,
+    /// All bytes that are lent as the output.
+    pub out: Vec<u8>,
+}
+
+/// The buffers with all that their owner has.
+pub struct Stage {
+    pub rooms: [Vec<u8>; BUFFERS],
+}
+
+impl Default for Stage {
+    fn default() -> Stage {
+        Stage::new()
+    }
+}
+
+impl Stage {
+    /// All zero, so the state is a fresh one.
+    pub fn new() -> Stage {
+        Stage { rooms: [(); BUFFERS].map(|()| vec![0; ROOM]) }
+    }
+
+    /// What this display tells of a step, if it is a call.
+    pub fn play(&mut self, step: &Step) -> Option<Told> {
+        match step {
+            Step::Store { buffer, bytes } => {
+                self.rooms[*buffer][..bytes.len()].copy_from_slice(bytes);
+                None
+            }
+            Step::Call { door, a, b, lent, .. } => Some(self.call(*door, *a, *b, lent)),
+        }
+    }
+
+    fn call(&mut self, door: Door, a: u32, b: u32, lent: &[Lent; BUFFERS]) -> Told {
+        let [state, tables, pictures, out] = &mut self.rooms;
+        let state = &mut state[..lent[STATE].length];
+        let tables = &mut tables[..lent[TABLES].length];
+        let pictures = &pictures[..lent[PICTURES].length];
+        let out = &mut out[..lent[OUTPUT].length];
+        let before = tables.to_vec();
+        let answer = call(door, a, b, LentBytes { state, tables, pictures, out });
+        let changed = (0..tables.len()).filter(|&at| tables[at] != before[at]);
+        let changes = changed.map(|at| (at as u32, tables[at])).collect();
+        Told { answer, is_touched: false, state: state.to_vec(), changes, out: out.to_vec() }
+    }
+}

@@ -1,0 +1,298 @@
+//! The calls from C beside this display: a C program that is linked with them makes the same calls
+//! on the same bytes, each buffer between guard bytes and beginning anywhere, and tells the answer
+//! and every byte that is lent.
+//!
+//!   SPOONWING_DISPLAY   the C program, ../../tools/c-display unless set (built by `tools/c-display
+//!                       build`)
+//!   SPOONWING_ROWS      how many generated rows of calls to compare, 500 unless set
+//!   SPOONWING_SEED      compares the row of this one seed only, aloud
+
+use second::answers::*;
+use second::beside::{fewer, seed, seeds, Doors};
+use second::cases::{gen_host, gen_row, HostCase, ROWS};
+use second::doors::*;
+use second::host::{host_frame, image_words};
+use second::state::*;
+use second::tables::{BANK_LEN, CONTROLLER_LEN, TABLES_LEN};
+use std::cell::RefCell;
+use std::collections::BTreeMap;
+
+/// What calls tell of a row, one after another; fewer than there are where they end the program.
+type Calls<'a> = &'a dyn Fn(&[Step]) -> Vec<Told>;
+
+/// Makes the calls of a row with both and answers their numbers, or says where they part.
+fn compare(calls: Calls, steps: &[Step]) -> Result<Vec<u32>, String> {
+    let mut stage = Stage::new();
+    let mut theirs = calls(steps).into_iter();
+    let mut answers = Vec::new();
+    for (i, step) in steps.iter().enumerate() {
+        let Some(ours) = stage.play(step) else { continue };
+        let place = format!("at step {} of {}, {}", i + 1, steps.len(), shown(step));
+        let theirs = theirs.next().ok_or(format!("{place}: the program ends"))?;
+        if let Some(told) = difference(&ours, &theirs) {
+            return Err(format!("{place}: {told}"));
+        }
+        answers.push(ours.answer);
+    }
+    Ok(answers)
+}
+
+fn difference(ours: &Told, theirs: &Told) -> Option<String> {
+    if theirs.answer != ours.answer {
+        return Some(format!("it answers {}, we answer {}", theirs.answer, ours.answer));
+    }
+    if theirs.is_touched {
+        return Some("an input, or a byte beside a buffer, is touched".into());
+    }
+    if theirs.changes != ours.changes {
+        let (theirs, ours) = (&theirs.changes, &ours.changes);
+        return Some(format!("of the tables it changes {theirs:?}, and we {ours:?}"));
+    }
+    for (name, ours_bytes, theirs_bytes) in
+        [("state", &ours.state, &theirs.state), ("output", &ours.out, &theirs.out)]
+    {
+        let other = (0..ours_bytes.len()).find(|&at| ours_bytes[at] != theirs_bytes[at]);
+        if let Some(at) = other {
+            let (theirs, ours) = (theirs_bytes[at], ours_bytes[at]);
+            return Some(format!("byte {at} of the {name} is {theirs}, and {ours} with us"));
+        }
+    }
+    None
+}
+
+/// Compares a row; a difference is told with a smaller row that differs too.
+fn compare_row(calls: Calls, name: &str, steps: Vec<Step>) -> Result<Vec<u32>, String> {
+    compare(calls, &steps).map_err(|told| {
+        let small = smaller(steps, &|steps| compare(calls, steps).is_err());
+        let still = compare(calls, &small).expect_err("it differs");
+        let steps: Vec<String> = small.iter().map(shown).collect();
+        let count = small.len();
+        format!(
+            "{name}: {told}\na small row that differs, of {count} steps: {still}\n{}",
+            steps.join("\n")
+        )
+    })
+}
+
+/// The row without the steps that it does not need in order to differ, and with zeros for the bytes
+/// that it does not need.
+fn smaller(steps: Vec<Step>, differs: &dyn Fn(&[Step]) -> bool) -> Vec<Step> {
+    let mut steps = fewer(steps, differs);
+    for i in 0..steps.len() {
+        for run in [CONTROLLER_LEN, BANK_LEN, 208, 64, 4] {
+            zero_runs(&mut steps, i, run, differs);
+        }
+    }
+    steps
+}
+
+/// Zeros in the runs of the bytes that a step stores, as long as the row still differs.
+fn zero_runs(steps: &mut Vec<Step>, i: usize, run: usize, differs: &dyn Fn(&[Step]) -> bool) {
+    let Step::Store { bytes, .. } = &steps[i] else { return };
+    let length = bytes.len();
+    for at in (0..length).step_by(run) {
+        let mut lighter = steps.clone();
+        let Step::Store { bytes, .. } = &mut lighter[i] else { return };
+        let part = &mut bytes[at..length.min(at + run)];
+        if part.iter().all(|&byte| byte == 0) {
+            continue;
+        }
+        part.fill(0);
+        if differs(&lighter) {
+            *steps = lighter;
+        }
+    }
+}
+
+/// A call with its numbers and what it is lent, or the words that are stored and not 0.
+fn shown(step: &Step) -> String {
+    match step {
+        Step::Call { door, a, b, lent, null } => {
+            let lent = lent.map(|lent| format!("{}+{}", lent.length, lent.past)).join(" ");
+            let empty = if *null { ", NULL for none" } else { "" };
+            format!("{door:?} {a:#x} {b:#x}, lent {lent}{empty}")
+        }
+        Step::Store { buffer, bytes } => {
+            let word = |chunk: &[u8]| chunk.iter().rev().fold(0, |n, &b| n << 8 | u32::from(b));
+            let words = bytes.chunks(4).map(word).enumerate().filter(|&(_, word)| word != 0);
+            let words: String = words.map(|(i, word)| format!(" {}: {word:08X}", 4 * i)).collect();
+            let name = ["state", "tables", "pictures", "output"][*buffer];
+            format!("{name} of {} bytes:{words}", bytes.len())
+        }
+    }
+}
+
+#[test]
+fn the_calls_answer_the_generated_rows() {
+    let doors = RefCell::new(Doors::start());
+    if let Some(seed) = seed() {
+        gen_row(seed).iter().for_each(|step| println!("{}", shown(step)));
+    }
+    let mut counts = BTreeMap::new();
+    for seed in seeds("SPOONWING_ROWS", 1, ROWS) {
+        let calls = |steps: &[Step]| doors.borrow_mut().row(steps);
+        match compare_row(&calls, &format!("seed {seed}"), gen_row(seed)) {
+            Ok(answers) => *counts.entry(answers.len() / 20 * 20).or_insert(0) += 1,
+            Err(told) => panic!("{told}"),
+        }
+    }
+    println!("rows by their calls, from so many on: {counts:?}");
+}
+
+/// A screen of one pixel, shown, with a bank selected that can be put to.
+fn one_pixel() -> Step {
+    let mut state = vec![0; STATE_LEN];
+    for (register, word) in [(0, 0b101_u32), (1, 0x0001_0001)] {
+        for at in [PENDING_AT, ACTIVE_AT] {
+            state[at + 4 * register..][..4].copy_from_slice(&word.to_le_bytes());
+        }
+    }
+    state[SELECTED_AT] = 7;
+    state[SELECTION_AT] = 1;
+    Step::Store { buffer: STATE, bytes: state }
+}
+
+/// What a call on that state needs.
+fn lent_to(door: Door) -> [Lent; BUFFERS] {
+    let lengths = [STATE_LEN, TABLES_LEN, 0, 4];
+    let length = |buffer: usize| if door.takes(buffer) { lengths[buffer] } else { 0 };
+    [STATE, TABLES, PICTURES, OUTPUT].map(|buffer| Lent { length: length(buffer), past: 0 })
+}
+
+/// A host that has no bytes to lend may pass NULL: for any of the buffers of any call, where that
+/// is right and where it is refused. Whoever reads or writes there is ended by the system.
+#[test]
+fn the_calls_take_null_for_no_bytes() {
+    let doors = RefCell::new(Doors::start());
+    let calls = |steps: &[Step]| doors.borrow_mut().row(steps);
+    let mut counts = BTreeMap::new();
+    for (door, emptied) in Door::ALL.into_iter().flat_map(|door| (0..16).map(move |i| (door, i))) {
+        let mut lent = lent_to(door);
+        for buffer in (0..BUFFERS).filter(|buffer| emptied >> buffer & 1 == 1) {
+            lent[buffer].length = 0;
+        }
+        let steps = vec![one_pixel(), Step::Call { door, a: 0, b: 8, lent, null: true }];
+        let answers = compare_row(&calls, &format!("with NULL for {emptied:04b}"), steps);
+        let answers = answers.unwrap_or_else(|told| panic!("{told}"));
+        if !door.is_read() {
+            *counts.entry(answers[0]).or_insert(0) += 1;
+        }
+    }
+    // Half of the 9 times 16 have no state. Of the other half, no output is refused in 4 fills of 8
+    // and in 4 paintings of each kind, then no tables in 2 of each kind and in 4 puts.
+    let expected = [(DONE, 52), (WRONG_TABLES, 8), (WRONG_OUTPUT, 12), (WRONG_STATE, 72)];
+    assert_eq!(counts, BTreeMap::from(expected));
+}
+
+/// Each buffer of each call begins at each place modulo 16.
+#[test]
+fn the_calls_take_every_alignment() {
+    let doors = RefCell::new(Doors::start());
+    let calls = |steps: &[Step]| doors.borrow_mut().row(steps);
+    for door in Door::ALL {
+        let mut steps = Vec::new();
+        for (buffer, past) in (0..BUFFERS).flat_map(|buffer| (0..16).map(move |i| (buffer, i))) {
+            let mut lent = lent_to(door);
+            lent[buffer].past = past;
+            steps.extend([one_pixel(), Step::Call { door, a: 0, b: 5, lent, null: false }]);
+        }
+        let answers = compare_row(&calls, "alignments", steps);
+        let answers = answers.unwrap_or_else(|told| panic!("{told}"));
+        assert!(door.is_read() || answers.iter().all(|&answer| answer == DONE), "{door:?}");
+    }
+}
+
+// ---- a law of painting on damaged states
+
+/// The error word and the output after a whole frame of a host call's scene, on a screen of that
+/// size, whatever size the scene was made for.
+fn frame_of(calls: Calls, case: &HostCase, (width, height): (i64, i64)) -> (Vec<u8>, Vec<u8>) {
+    let mut state = [&[0; ACTIVE_AT], &case.image[..], &case.frame.to_le_bytes()].concat();
+    state.resize(STATE_LEN, 0);
+    let size = (width | height << 16) as u32;
+    state[ACTIVE_AT + 4..ACTIVE_AT + 8].copy_from_slice(&size.to_le_bytes());
+    let lengths = [STATE_LEN, TABLES_LEN, case.pictures.len(), 4 * (width * height) as usize];
+    let lent = lengths.map(|length| Lent { length, past: 0 });
+    let mut steps: Vec<Step> =
+        [(STATE, &state), (TABLES, &case.tables), (PICTURES, &case.pictures)]
+            .map(|(buffer, bytes)| Step::Store { buffer, bytes: bytes.clone() })
+            .into();
+    steps.push(Step::Call { door: Door::Frame, a: 0, b: 0, lent, null: false });
+    let told = calls(&steps).pop().expect("it is a call");
+    assert_eq!(told.answer, DONE, "{width} x {height}");
+    (told.state[ERRORS_AT..SELECTED_AT].to_vec(), told.out)
+}
+
+/// A layer is painted where it lies on the screen, also where no start would let it stand: where
+/// the screen is cut the frame is cut, and nothing else changes.
+#[test]
+fn a_cut_screen_has_a_cut_frame() {
+    let doors = RefCell::new(Doors::start());
+    let calls = |steps: &[Step]| doors.borrow_mut().row(steps);
+    let mut frames = 0;
+    for seed in 0..600 {
+        let case = gen_host(seed);
+        let HostCase { image, frame, tables, pictures, output } = &case;
+        if host_frame(image, *frame, tables, pictures, &mut output.clone()) != DONE {
+            continue;
+        }
+        let words = image_words(image).expect("it is whole");
+        let (width, height) = (words.width(), words.height());
+        let (columns, rows) = ((width + 1) / 2, (2 * height + 2) / 3);
+        let (errors, whole) = frame_of(&calls, &case, (width, height));
+        let (cut_errors, cut) = frame_of(&calls, &case, (columns, rows));
+        let lines = whole.chunks(4 * width as usize).take(rows as usize);
+        let part = lines.flat_map(|line| &line[..4 * columns as usize]).copied();
+        assert!(cut == part.collect::<Vec<u8>>(), "seed {seed}: it is no part of the whole frame");
+        assert_eq!(cut_errors, errors, "seed {seed}");
+        frames += 1;
+    }
+    assert!(frames > 200, "only {frames} frames are cut");
+}
+
+/// Our calls with a fault: some of what a call tells is changed afterwards, and stays so.
+fn with_fault(fault: impl Fn(Door, &mut Stage, &mut Told)) -> impl Fn(&[Step]) -> Vec<Told> {
+    move |steps: &[Step]| {
+        let mut stage = Stage::new();
+        let mut all = Vec::new();
+        for step in steps {
+            let told = stage.play(step);
+            if let (Some(mut told), Step::Call { door, .. }) = (told, step) {
+                fault(*door, &mut stage, &mut told);
+                all.push(told);
+            }
+        }
+        all
+    }
+}
+
+/// The comparison itself, on calls that are known to be wrong.
+#[test]
+fn impostors_are_caught_and_their_rows_made_small() {
+    let stops = with_fault(|door, stage, told| {
+        // The frame number stands still on a refused start.
+        if door == Door::Start && (RESERVED_BIT..=SAME_DEPTH).contains(&told.answer) {
+            let number = |bytes: &[u8]| u32::from_le_bytes(bytes.try_into().expect("four"));
+            let back = number(&told.state[FRAME_AT..ERRORS_AT]).wrapping_sub(1).to_le_bytes();
+            told.state[FRAME_AT..ERRORS_AT].copy_from_slice(&back);
+            stage.rooms[STATE][FRAME_AT..ERRORS_AT].copy_from_slice(&back);
+        }
+    });
+    let spills = with_fault(|door, _, told| told.is_touched |= door == Door::Put);
+    let ends = |steps: &[Step]| {
+        let mut told = with_fault(|_, _, _| {})(steps);
+        told.pop();
+        told
+    };
+    let impostors: [(Calls, &str, usize); 3] = [
+        (&stops, "byte 416 of the state", 3),
+        (&spills, "beside a buffer, is touched", 1),
+        (&ends, "the program ends", 1),
+    ];
+    for (impostor, said, most) in impostors {
+        let caught = (0..50).find_map(|seed| compare_row(impostor, "a row", gen_row(seed)).err());
+        let told = caught.expect("the impostor goes unseen");
+        let small = (1..=most).any(|n| told.contains(&format!("differs, of {n} steps")));
+        assert!(told.contains(said) && small, "{told}");
+    }
+}
