@@ -5,7 +5,6 @@
  *     caption --inputs DIR     also writes into DIR what the calls were given and what they left */
 #include <stdio.h>
 #include <stdlib.h>
-#include <string.h>
 
 #include "files.h"
 #include "pictures.h"
@@ -104,6 +103,7 @@ static int write_inputs(const char *folder)
 
 int main(int count, char **words)
 {
+    const char *folder = inputs_folder(count, words);
     paint_water(pictures);
     done(spoonwing_display_new(state, sizeof state));
     load_caption();
@@ -113,7 +113,7 @@ int main(int count, char **words)
     done(spoonwing_display_fill(state, sizeof state, output, sizeof output));
     paint(0, 4);
     paint(4, 8);
-    if (count == 3 && strcmp(words[1], "--inputs") == 0 && !write_inputs(words[2]))
+    if (folder && !write_inputs(folder))
         return 1;
     return write_picture(output, WIDTH, HEIGHT) ? 0 : 1;
 }

@@ -1,8 +1,20 @@
-/* Writing by the C library alone. */
+/* By the C library alone. */
 #include <stdio.h>
+#include <stdlib.h>
+#include <string.h>
 
 #include "files.h"
 #include "pictures.h"
+
+const char *inputs_folder(int count, char **words)
+{
+    if (count == 1)
+        return NULL;
+    if (count == 3 && strcmp(words[1], "--inputs") == 0)
+        return words[2];
+    fprintf(stderr, "usage: %s [--inputs DIR]\n", words[0]);
+    exit(2);
+}
 
 int write_file(const char *folder, const char *name, const uint8_t *bytes, size_t length)
 {

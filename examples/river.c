@@ -4,7 +4,6 @@
  *     river                  writes the frame to standard output, as a PPM
  *     river --inputs DIR     also writes into DIR what the entry was given and what it painted */
 #include <stdio.h>
-#include <string.h>
 
 #include "files.h"
 #include "pictures.h"
@@ -130,11 +129,7 @@ static int write_inputs(const char *folder)
 
 int main(int count, char **words)
 {
-    int has_folder = count == 3 && strcmp(words[1], "--inputs") == 0;
-    if (count != 1 && !has_folder) {
-        fprintf(stderr, "usage: river [--inputs DIR]\n");
-        return 2;
-    }
+    const char *folder = inputs_folder(count, words);
     make_inputs();
     uint32_t answer = spoonwing_frame(image, sizeof image, FRAME, tables, sizeof tables,
                                       pictures, sizeof pictures, output, sizeof output);
@@ -143,7 +138,7 @@ int main(int count, char **words)
                 spoonwing_refusal(answer));
         return 1;
     }
-    if (has_folder && !write_inputs(words[2]))
+    if (folder && !write_inputs(folder))
         return 1;
     return write_picture(output, WIDTH, HEIGHT) ? 0 : 1;
 }

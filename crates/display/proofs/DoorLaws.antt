@@ -9,6 +9,7 @@ use borrow.Author.Tests.{eq-eqb, ne-eqb}
 use lib.Dec.{ltb}
 use lib.ListN.{length, getD, List·getD-append}
 use lib.Seq.{getD-append-add}
+use Rattle.lists.specs.Choice.{pick}
 use Rattle.lists.specs.Little.{littleAt}
 use Rattle.lists.specs.Bytes.{littleBytes}
 use Rattle.lists.specs.Tab.{tab}
@@ -19,7 +20,7 @@ use Rattle.words.specs.Image.{wordsFrom}
 use Rattle.display.specs.declared.Display.{Display}
 use Rattle.display.specs.declared.Told.{Told}
 use Rattle.display.specs.State.{display, selectionOf}
-use Rattle.display.specs.Doors.{stateLen, takenOf, flag, lastWords, stateWords, stateBytes, doorAnswer, doorState}
+use Rattle.display.specs.Doors.{stateLen, takenOf, lastWords, stateWords, stateBytes, doorAnswer, doorState}
 use Rattle.display.specs.Doors.{doorBuffer, doorRead}
 
 -- ---- out of bytes
@@ -58,7 +59,7 @@ module _ (d : Display) (p : length (d .pending) ≡ 52) where
 -- ---- put back, part by part
 
 pub state-bytes : (d : Display) (l p₁ p₂ p₃ : List ℕ) (made : ℕ) → length (d .pending) ≡ 52 → length (d .active) ≡ 52
-    → length l ≡ stateLen → made ≡ flag (d .selection .made)
+    → length l ≡ stateLen → made ≡ pick (d .selection .made) 1 0
     → p₁ ≡ tab (4 * length (d .pending)) (littleBytes (d .pending))
     → p₂ ≡ tab (4 * length (d .active)) (littleBytes (d .active))
     → p₃ ≡ tab 20 (littleBytes (d .frame ∷ d .errors ∷ made ∷ d .selection .number ∷ d .selection .place ∷ []))

@@ -2,7 +2,6 @@
 -- name, the arguments and the meaning of a call of the display. Assumes nothing.
 use Prim.Native.Nat.{ℕ}
 use mathlib.Core.List.{List, [], _∷_, _++_}
-use mathlib.Core.Bool.{Bool, true, false}
 use lib.ListN.{length}
 use lib.Dec.{eqb, ltb}
 use Rattle.lists.specs.Choice.{pick, choose}
@@ -29,14 +28,9 @@ takenOf s =
 
 -- ---- bytes out of a state
 
--- a flag as a word
-abbrev pub flag : Bool → ℕ
-flag true = 1
-flag false = 0
-
--- the words behind the registers: frame number, error word, and the selection
+-- the words behind the registers: frame number, error word, and the selection with 1 where one was made
 unfoldable pub lastWords : Display → List ℕ
-lastWords d = d .frame ∷ d .errors ∷ flag (d .selection .made) ∷ d .selection .number ∷ d .selection .place ∷ []
+lastWords d = d .frame ∷ d .errors ∷ pick (d .selection .made) 1 0 ∷ d .selection .number ∷ d .selection .place ∷ []
 
 -- all 109
 unfoldable pub stateWords : Display → List ℕ

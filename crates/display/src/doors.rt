@@ -2,12 +2,13 @@
 // makes the call and puts them back. To Rattle the state stays closed: nothing here hands out a `Display`.
 ghost use mathlib.Core.Path.{_≡_};
 ghost use lib.ListN.{length};
+ghost use Rattle.lists.specs.Choice.{pick};
 ghost use Rattle.answers.specs.Answers.{done};
 ghost use Rattle.words.specs.Fields.{widthOf, heightOf};
 ghost use Rattle.display.specs.State.{fresh, told, writeOf, selectOf, toggleOf, startOf};
 ghost use Rattle.display.specs.Put.{putOf, putTables};
 ghost use Rattle.display.specs.Paint.{fillTold, fillBytes, paintTold, paintBytes, frameTold, frameBytes};
-ghost use Rattle.display.specs.Doors.{stateLen, takenOf, flag, stateBytes, doorAnswer, doorState};
+ghost use Rattle.display.specs.Doors.{stateLen, takenOf, stateBytes, doorAnswer, doorState};
 ghost use Rattle.display.specs.Doors.{doorBuffer, doorRead};
 use crate::Display;
 use crate::Selection;
@@ -48,7 +49,7 @@ fn taken(state: &[u8]) -> Display
 }
 
 fn flag_of(set: bool) -> u32
-    ensures { λ r. ⌜ r ≡ flag set ⌝ }
+    ensures { λ r. ⌜ r ≡ pick set 1 0 ⌝ }
 {
     if set {
         return 1;

@@ -8,6 +8,7 @@ use native.Mathlib.Omega.{arith}
 use borrow.Author.Tests.{eq-eqb}
 use lib.Dec.{ltb}
 use lib.ListN.{length, getD, replicate}
+use Rattle.lists.specs.Choice.{pick}
 use Rattle.lists.specs.Little.{littleAt}
 use Rattle.lists.specs.Bytes.{littleByte, littleBytes}
 use Rattle.lists.specs.Tab.{tab}
@@ -17,7 +18,7 @@ use Rattle.words.specs.Image.{wordsFrom}
 use Rattle.display.specs.declared.Display.{Display}
 use Rattle.display.specs.declared.Told.{Told}
 use Rattle.display.specs.State.{display, selectionOf, fresh}
-use Rattle.display.specs.Doors.{stateLen, takenOf, flag, lastWords, stateWords, stateBytes, doorAnswer, doorState}
+use Rattle.display.specs.Doors.{stateLen, takenOf, lastWords, stateWords, stateBytes, doorAnswer, doorState}
 use Rattle.display.specs.Doors.{doorBuffer, doorRead}
 use Rattle.display.proofs.DoorLaws.{taken-all, in-pending, in-active, in-last}
 use Rattle.doors.specs.Rows.{AreWords, Fits, Holds, Ask, Typed, AllTyped, tellsOf, lentTo, leftBy, Seen, seenOf}
@@ -35,11 +36,11 @@ words-back w u k n o at b long h e =
     (λ i lt. let q : getD w (k + i) 0 < 2 ^ 32 = rw (← e i lt) (h i) in
     e i lt ∙ sym (word-back w (k + i) n (o + 4 * i) (omega arith) (omega arith) q))
 
-flag-back : (b : Bool) → b ≡ ltb 0 (flag b)
+flag-back : (b : Bool) → b ≡ ltb 0 (pick b 1 0)
 flag-back true = refl
 flag-back false = refl
 
-flag-fits : (b : Bool) → flag b < 2 ^ 32
+flag-fits : (b : Bool) → pick b 1 0 < 2 ^ 32
 flag-fits true = omega arith
 flag-fits false = omega arith
 
@@ -51,7 +52,7 @@ taken-back d f =
     → v ≡ littleAt (tab 436 (littleBytes w)) o
     = λ i o v at b e h. e ∙ sym (word-back w (104 + i) 436 o (omega arith) (omega arith) (rw (← e) h)) in
     let r = in-last d (f .pending) (f .active) in
-    sym (taken-all (stateBytes d) (d .pending) (d .active) (d .frame) (d .errors) (flag (d .selection .made))
+    sym (taken-all (stateBytes d) (d .pending) (d .active) (d .frame) (d .errors) (pick (d .selection .made) 1 0)
     (d .selection .number) (d .selection .place)
     (words-back w (d .pending) 0 436 0 refl (omega arith) (f .pending) (f .pending-words)
     (λ i h. in-pending d (f .pending) i h ∙ ap (λ (n : ℕ). getD w n 0) (let q : i ≡ 0 + i = omega arith in q)))
@@ -59,7 +60,7 @@ taken-back d f =
     (in-active d (f .pending) (f .active)))
     (one 0 416 (d .frame) refl (omega arith) (r 0) (f .frame))
     (one 1 420 (d .errors) refl (omega arith) (r 1) (f .errors))
-    (one 2 424 (flag (d .selection .made)) refl (omega arith) (r 2) (flag-fits (d .selection .made)))
+    (one 2 424 (pick (d .selection .made) 1 0) refl (omega arith) (r 2) (flag-fits (d .selection .made)))
     (one 3 428 (d .selection .number) refl (omega arith) (r 3) (f .number))
     (one 4 432 (d .selection .place) refl (omega arith) (r 4) (f .place)))
     ∙ ap (λ (b : Bool). display (d .pending) (d .active) (d .frame) (d .errors)

@@ -273,44 +273,42 @@ fn neighbours_that_share_no_pixel_exchange_depths() {
     try_all(CASES, &least, |seed| exchange(&mut |inputs| host.painted(&inputs.call()), seed));
 }
 
+/// How a layer comes by one alpha all over, and how many cases of each are the least.
+const WAYS: [(&str, usize); 8] = [
+    ("by its bytes", 100),
+    ("by its colour table", 100),
+    ("by the colours drawn", 100),
+    ("by global alpha", 100),
+    ("by a fade not begun", 100),
+    ("by a fade on its way", 100),
+    ("by a fade at its end", 100),
+    ("by a fade past its end", 100),
+];
+
 #[test]
 fn nothing_counts_under_an_opaque_pixel() {
     let mut host = Host::start();
-    let least = [
-        ("by its bytes", 100),
+    let own = [
         ("by some of its bytes", 100),
-        ("by its colour table", 100),
-        ("by the colours drawn", 100),
-        ("by global alpha", 100),
-        ("by a fade not begun", 100),
-        ("by a fade on its way", 100),
-        ("by a fade at its end", 100),
-        ("by a fade past its end", 100),
         ("over layers", 700),
         ("over the background alone", 150),
         ("opaque pixels", 20_000),
         ("over other bytes", 20_000),
     ];
+    let least = [&WAYS[..], &own].concat();
     try_all(CASES, &least, |seed| opaque(&mut |inputs| host.painted(&inputs.call()), seed));
 }
 
 #[test]
 fn a_clear_layer_may_be_switched_off() {
     let mut host = Host::start();
-    let least = [
-        ("by its bytes", 100),
-        ("by its colour table", 100),
-        ("by the colours drawn", 100),
-        ("by global alpha", 100),
-        ("by a fade not begun", 100),
-        ("by a fade on its way", 100),
-        ("by a fade at its end", 100),
-        ("by a fade past its end", 100),
+    let own = [
         ("pictures move up", 150),
         ("no picture after its own", 150),
         ("no picture of its own", 400),
         ("pixels that would be seen", 20_000),
     ];
+    let least = [&WAYS[..], &own].concat();
     try_all(CASES, &least, |seed| invisible(&mut |inputs| host.painted(&inputs.call()), seed));
 }
 
