@@ -1,5 +1,5 @@
 /* Paintings for an emulator that logs what is executed: the subjects at the smaller size, then each
- * step of growth at a quarter of its width and height; and the calls of a kept display. */
+ * step of growth at a quarter of its width and height; and a kept display's calls and loads. */
 #define _XOPEN_SOURCE 700
 #include <stdio.h>
 #include <stdlib.h>
@@ -8,6 +8,7 @@
 
 #include "growth.h"
 #include "kept.h"
+#include "loads.h"
 #include "report.h"
 #include "run.h"
 #include "subjects.h"
@@ -55,18 +56,28 @@ static void paint_growth(const struct growth *growth)
     }
 }
 
-/* Marks the second work of two, as with paintings. */
-static void work_marked(int work)
+/* Marks the second doing of two, as with paintings. */
+static void do_marked(doing *doing, struct kept *kept, int what, int ways)
 {
-    struct kept *kept = new_kept(work);
-    dprintf(STDOUT_FILENO, "calls\t%s\t%d\n", WORK_NAME[work], CALLS);
-    for (int side = 0; side < SIDES; side++) {
-        do_work(kept, work, side);
+    for (int how = 0; how < ways; how++) {
+        doing(kept, what, how);
         mark("begin\n");
-        do_work(kept, work, side);
+        doing(kept, what, how);
         mark("end\n");
     }
     drop_kept(kept);
+}
+
+static void work_marked(int work)
+{
+    dprintf(STDOUT_FILENO, "calls\t%s\t%d\n", WORK_NAME[work], CALLS);
+    do_marked(do_work, new_kept(work), work, SIDES);
+}
+
+static void load_marked(int load)
+{
+    dprintf(STDOUT_FILENO, "loads\t%s\t%d\n", LOAD_NAME[load], TIMES);
+    do_marked(do_load, new_kept(PUT), load, WAYS);
 }
 
 void paint_counted(void)
@@ -77,4 +88,6 @@ void paint_counted(void)
         paint_growth(&GROWTH[i]);
     for (int i = 0; i < WORKS; i++)
         work_marked(i);
+    for (int i = 0; i < LOADS; i++)
+        load_marked(i);
 }

@@ -1,4 +1,4 @@
-/* Both sides begin with the registers of the museum scene, pending and active, and with one of
+/* Both sides begin with the registers of the museum scene, pending and active, and with a font of
  * its idle banks selected. */
 #include <stdlib.h>
 #include <string.h>
@@ -6,7 +6,7 @@
 #include "kept.h"
 #include "scenes.h"
 
-enum { DISPLAY_ON = 1, UPDATE_ENABLE = 4, IDLE_SELECTION = 1 };
+enum { DISPLAY_ON = 1, UPDATE_ENABLE = 4 };
 
 /* The struct is the state's 109 words: a size below 0 does not compile. */
 typedef char same_length[sizeof(struct plain_display) == SPOONWING_STATE_LEN ? 1 : -1];
@@ -19,6 +19,14 @@ const char *const WORK_NAME[WORKS] = {
     [PUT] = "put",
 };
 
+/* What runs load: bytes that differ, as a font and as an image. */
+static void fill_runs(struct kept *kept)
+{
+    for (int i = 0; i < CALLS; i++)
+        kept->font[i] = (uint8_t)i;
+    put_writes(kept->writes, kept->font);
+}
+
 /* The struct's words stand in memory as the state's do on an x86-64. */
 struct kept *new_kept(int work)
 {
@@ -30,11 +38,12 @@ struct kept *new_kept(int work)
     plain->pending[0] = DISPLAY_ON | (work == UPDATE ? UPDATE_ENABLE : 0);
     memcpy(plain->active, plain->pending, sizeof plain->active);
     plain->is_selected = 1;
-    plain->selection = IDLE_SELECTION;
+    plain->selection = IDLE_FONT;
     memcpy(kept->state, plain, sizeof kept->state);
     kept->plain_tables = room(SPOONWING_TABLES_LENGTH);
     memcpy(kept->plain_tables, kept->scene->tables, SPOONWING_TABLES_LENGTH);
     kept->output = room(frame_length(kept->scene));
+    fill_runs(kept);
     return kept;
 }
 
@@ -49,4 +58,10 @@ void drop_kept(struct kept *kept)
 void do_work(struct kept *kept, int work, int side)
 {
     (side == PROVED ? PROVED_WORK : PLAIN_WORK)[work](kept);
+}
+
+int is_alike(const struct kept *kept)
+{
+    return memcmp(kept->state, &kept->plain, sizeof kept->state) == 0 &&
+           memcmp(kept->scene->tables, kept->plain_tables, SPOONWING_TABLES_LENGTH) == 0;
 }

@@ -9,10 +9,11 @@
  * a painting's refusals and nothing to paint. */
 enum { WRITE, START, UPDATE, EMPTY_BAND, PUT, WORKS };
 
-/* A bank's instructions have so many bytes, so that many puts follow one select. */
-enum { CALLS = INSTRUCTIONS * INSTRUCTION_LENGTH };
+/* A font has so many bytes, so that many puts follow one select. */
+enum { CALLS = GLYPHS * GLYPH_LENGTH };
 
-enum { REGISTERS = 52 };
+/* The table that both sides begin with: the font of controller 0's bank 1, and where it stands. */
+enum { IDLE_FONT = 3 << 1 | 1, IDLE_FONT_AT = BANK_LENGTH + FONT_AT };
 
 /* The state's words, in the order of its bytes. */
 struct plain_display {
@@ -22,9 +23,10 @@ struct plain_display {
 
 struct kept {
     uint8_t state[SPOONWING_STATE_LEN];
-    struct plain_display plain;
+    struct plain_display plain, spare;
     struct scene *scene; /* its image is in both states; its tables are the archive's */
     uint8_t *plain_tables, *output;
+    uint8_t font[CALLS], writes[WRITE_LENGTH * REGISTERS]; /* for runs */
 };
 
 /* The archive's side and the struct's. */
@@ -39,7 +41,11 @@ extern const char *const WORK_NAME[WORKS];
 struct kept *new_kept(int work);
 void drop_kept(struct kept *kept);
 
-/* Does the work of one side once. */
-void do_work(struct kept *kept, int work, int side);
+/* Does a work once on one side: what is done, and how. */
+typedef void doing(struct kept *kept, int what, int how);
+doing do_work;
+
+/* Whether both sides have the same bytes, state and tables. */
+int is_alike(const struct kept *kept);
 
 #endif

@@ -1,4 +1,4 @@
-/* Written from document 01's "Registers", "Tables" and "Answers by number". */
+/* Written from document 01's "Registers", "Tables" and "Answers by number", and from K1. */
 #include <string.h>
 
 #include "plain_display.h"
@@ -23,6 +23,20 @@ uint32_t plain_write(struct plain_display *display, uint32_t register_number, ui
     if (register_number >= REGISTERS)
         return SPOONWING_NO_REGISTER;
     display->pending[register_number] = value;
+    return SPOONWING_DONE;
+}
+
+/* The value's bytes stand as a word's do on an x86-64. */
+uint32_t plain_write_run(struct plain_display *display, const uint8_t *run, size_t run_length,
+                         size_t *done)
+{
+    uint32_t value;
+    for (*done = 0; *done < run_length / WRITE_LENGTH; ++*done) {
+        const uint8_t *item = run + WRITE_LENGTH * *done;
+        memcpy(&value, item + 1, sizeof value);
+        if (plain_write(display, item[0], value) != SPOONWING_DONE)
+            return SPOONWING_NO_REGISTER;
+    }
     return SPOONWING_DONE;
 }
 
@@ -97,23 +111,71 @@ uint32_t plain_select(struct plain_display *display, uint32_t selection)
     return SPOONWING_DONE;
 }
 
-uint32_t plain_put(struct plain_display *display, uint8_t *tables, size_t length, uint8_t byte)
+/* Where in a bank its tables begin, and where the last ends. */
+static const uint32_t BEGIN[] = {0, COLOURS_AT, STRINGS_AT, FONT_AT, BANK_LENGTH};
+
+static uint32_t controller(const struct plain_display *d) { return d->selection >> 3 & 7; }
+static uint32_t kind(const struct plain_display *d) { return d->selection >> 1 & 3; }
+static uint32_t bank(const struct plain_display *d) { return d->selection & 1; }
+
+/* 6, 3 or 4. */
+static uint32_t put_refusal(const struct plain_display *display, size_t length)
 {
-    static const uint32_t begin[] = {0, COLOURS_AT, STRINGS_AT, FONT_AT, BANK_LENGTH};
-    uint32_t g = display->selection >> 3 & 7, kind = display->selection >> 1 & 3;
-    uint32_t bank = display->selection & 1;
     if (length != SPOONWING_TABLES_LENGTH)
         return SPOONWING_BAD_TABLES_LENGTH;
     if (!display->is_selected)
         return SPOONWING_NOT_SELECTED;
-    if ((display->active[3] >> (8 * kind + g) & 1) == bank)
+    if ((display->active[3] >> (8 * kind(display) + controller(display)) & 1) == bank(display))
         return SPOONWING_BANK_ACTIVE;
-    if (display->place >= begin[kind + 1] - begin[kind]) {
-        display->errors |= UINT32_C(1) << (4 * g + 1);
-        return SPOONWING_BANK_FULL;
-    }
-    tables[CONTROLLER_LENGTH * g + BANK_LENGTH * bank + begin[kind] + display->place++] = byte;
     return SPOONWING_DONE;
+}
+
+/* How many bytes the selected table still takes. */
+static size_t bytes_left(const struct plain_display *display)
+{
+    uint32_t length = BEGIN[kind(display) + 1] - BEGIN[kind(display)];
+    return display->place < length ? length - display->place : 0;
+}
+
+/* The place of the next byte among the tables. */
+static size_t next_byte(const struct plain_display *display)
+{
+    return CONTROLLER_LENGTH * controller(display) + BANK_LENGTH * bank(display) +
+           BEGIN[kind(display)] + display->place;
+}
+
+static uint32_t full(struct plain_display *display)
+{
+    display->errors |= UINT32_C(1) << (4 * controller(display) + 1);
+    return SPOONWING_BANK_FULL;
+}
+
+uint32_t plain_put(struct plain_display *display, uint8_t *tables, size_t length, uint8_t byte)
+{
+    uint32_t refusal = put_refusal(display, length);
+    if (refusal != SPOONWING_DONE)
+        return refusal;
+    if (bytes_left(display) == 0)
+        return full(display);
+    tables[next_byte(display)] = byte;
+    display->place++;
+    return SPOONWING_DONE;
+}
+
+uint32_t plain_put_run(struct plain_display *display, uint8_t *tables, size_t length,
+                       const uint8_t *run, size_t run_length, size_t *done)
+{
+    uint32_t refusal = put_refusal(display, length);
+    size_t left = bytes_left(display);
+    *done = 0;
+    if (run_length == 0)
+        return SPOONWING_DONE;
+    if (refusal != SPOONWING_DONE)
+        return refusal;
+    *done = run_length < left ? run_length : left;
+    memcpy(tables + next_byte(display), run, *done);
+    display->place += (uint32_t)*done;
+    return *done == run_length ? SPOONWING_DONE : full(display);
 }
 
 /* ---- painting */

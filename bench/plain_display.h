@@ -9,6 +9,12 @@ uint32_t plain_select(struct plain_display *display, uint32_t selection);
 uint32_t plain_start(struct plain_display *display);
 uint32_t plain_put(struct plain_display *display, uint8_t *tables, size_t length, uint8_t byte);
 
+/* Runs: a put run is one memcpy. */
+uint32_t plain_write_run(struct plain_display *display, const uint8_t *run, size_t run_length,
+                         size_t *done);
+uint32_t plain_put_run(struct plain_display *display, uint8_t *tables, size_t length,
+                       const uint8_t *run, size_t run_length, size_t *done);
+
 /* What painting a band answers. */
 uint32_t plain_refusal(const struct plain_display *display, uint32_t low, uint32_t high,
                        size_t tables_length, size_t pictures_length, size_t output_length);

@@ -14,12 +14,19 @@ void print_ratios(void);
 /* What doubling the pixels, the layers or the instructions costs. */
 void print_growth(void);
 
+/* Compares what a kept display's calls and loads leave with a plain struct's, likewise. */
+void check_calls(void);
+
 /* The time of a kept display's calls as a multiple of a plain struct's. */
 void print_calls(void);
 
+/* The time of a load by one run as a multiple of other ways'. */
+void print_loads(void);
+
 /* Paints and calls for an emulator that logs what is executed. Among the log stand a line for each
- * row, its table, its name, for ratios its pixels and for calls their number, with tabs between,
- * and around each painting and each side's calls of the row the lines "begin" and "end". */
+ * row, its table, its name, for ratios its pixels and for calls and loads their number, with tabs
+ * between, and around each painting, each side's calls and each way's loads of the row the lines
+ * "begin" and "end". */
 void paint_counted(void);
 
 /* A cell with a number and, where one is wanted, the most that it may be. */

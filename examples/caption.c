@@ -26,22 +26,23 @@ static const struct layer SCENE[LAYERS] = {
 static uint8_t state[SPOONWING_STATE_LEN], tables[SPOONWING_TABLES_LENGTH];
 static uint8_t pictures[PIXEL * WATER_WIDTH * WATER_HEIGHT], output[PIXEL * WIDTH * HEIGHT];
 static uint8_t image[SPOONWING_IMAGE_LENGTH]; /* the registers as they are written */
+static size_t item;                           /* where the last run stopped */
 
 /* Ends the program where a call is refused. */
 static void done(uint32_t answer)
 {
     if (answer == SPOONWING_DONE)
         return;
-    fprintf(stderr, "caption: %u: %s\n", (unsigned)answer, spoonwing_refusal(answer));
+    fprintf(stderr, "caption: %u: %s\ncaption: the last run stopped at item %zu\n",
+            (unsigned)answer, spoonwing_refusal(answer), item);
     exit(1);
 }
 
-/* Puts a table of the caption, byte by byte, into bank 1: a fresh display shows bank 0. */
-static void load(uint32_t kind, const uint8_t *bytes, size_t length)
+/* Puts a table of the caption in one run into bank 1: a fresh display shows bank 0. */
+static void load(uint32_t kind, const uint8_t *run, size_t length)
 {
     done(spoonwing_display_select(state, sizeof state, CAPTION << 3 | kind << 1 | 1));
-    for (size_t i = 0; i < length; i++)
-        done(spoonwing_display_put(state, sizeof state, tables, sizeof tables, bytes[i]));
+    done(spoonwing_display_put_run(state, sizeof state, tables, sizeof tables, run, length, &item));
 }
 
 static void load_caption(void)
@@ -49,6 +50,7 @@ static void load_caption(void)
     enum { PANE, FRAME, WORDS };
     static const uint8_t glass[] = {6, 34, 46, 190}, foam[] = {160, 214, 210, 255},
                          cream[] = {255, 244, 222, 255};
+    static const size_t begin[] = {0, COLOURS_AT, STRINGS_AT, FONT_AT, BANK_LENGTH};
     static uint8_t drawn[BANK_LENGTH];
     struct bank bank = first_bank(drawn, 0);
     set_colour(&bank, PANE, glass);
@@ -57,10 +59,8 @@ static void load_caption(void)
     draw_box(&bank, 0, 0, SCENE[CAPTION].width, SCENE[CAPTION].height, 2, FRAME);
     draw_text(&bank, 14, 10, SCALE_2, WORDS, "The river at dusk");
     draw_text(&bank, 14, 34, SCALE_1, FRAME, "one state, two banks, two bands");
-    load(0, drawn, COLOURS_AT);
-    load(1, drawn + COLOURS_AT, STRINGS_AT - COLOURS_AT);
-    load(2, drawn + STRINGS_AT, FONT_AT - STRINGS_AT);
-    load(3, drawn + FONT_AT, BANK_LENGTH - FONT_AT);
+    for (uint32_t kind = 0; kind < 4; kind++)
+        load(kind, drawn + begin[kind], begin[kind + 1] - begin[kind]);
 }
 
 /* One byte more than the font has: it is refused and sets a bit of the error word. */
@@ -77,13 +77,14 @@ static void write_registers(void)
 {
     enum { DISPLAY_ON = 1, UPDATE = 4 };
     static const uint8_t ground[] = {30, 62, 88};
+    uint8_t run[WRITE_LENGTH * REGISTERS];
     put_screen(image, WIDTH, HEIGHT, ground);
     for (int n = 0; n < LAYERS; n++)
         put_layer(image, n, &SCENE[n]);
     put_word(image, DISPLAY_ON | UPDATE);
     put_word(image + 4 * 3, UINT32_C(0x01010101) << CAPTION); /* bank 1 of all four kinds */
-    for (uint32_t i = 0; i < SPOONWING_IMAGE_LENGTH / 4; i++)
-        done(spoonwing_display_write(state, sizeof state, i, word_at(image + 4 * i)));
+    put_writes(run, image);
+    done(spoonwing_display_write_run(state, sizeof state, run, sizeof run, &item));
 }
 
 static void paint(uint32_t low, uint32_t high)
@@ -113,7 +114,6 @@ int main(int count, char **words)
     done(spoonwing_display_fill(state, sizeof state, output, sizeof output));
     paint(0, 4);
     paint(4, 8);
-    if (folder && !write_inputs(folder))
-        return 1;
-    return write_picture(output, WIDTH, HEIGHT) ? 0 : 1;
+    int is_written = !folder || write_inputs(folder);
+    return is_written && write_picture(output, WIDTH, HEIGHT) ? 0 : 1;
 }

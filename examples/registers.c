@@ -1,4 +1,6 @@
 /* Where words stand in a register image, and how their fields are packed. */
+#include <string.h>
+
 #include "registers.h"
 #include "tables.h"
 
@@ -21,4 +23,12 @@ void put_layer(uint8_t *image, int n, const struct layer *layer)
     put_word(words + 12, layer->height << 16 | layer->width);
     put_word(words + 16, layer->fade_start);
     put_word(words + 20, layer->fade_target << 16 | layer->fade_length);
+}
+
+void put_writes(uint8_t *run, const uint8_t *image)
+{
+    for (int i = 0; i < REGISTERS; i++) {
+        run[WRITE_LENGTH * i] = (uint8_t)i;
+        memcpy(run + WRITE_LENGTH * i + 1, image + WORD_LENGTH * i, WORD_LENGTH);
+    }
 }

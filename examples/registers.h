@@ -1,4 +1,4 @@
-/* Writes the words of a register image: the screen, and an enabled layer. */
+/* Writes the words of a register image, the screen and an enabled layer, and an image as a run. */
 #ifndef REGISTERS_H
 #define REGISTERS_H
 
@@ -17,5 +17,9 @@ void put_screen(uint8_t *image, uint32_t width, uint32_t height, const uint8_t g
 
 /* Layer n, enabled; a layer that is not put stays off. */
 void put_layer(uint8_t *image, int n, const struct layer *layer);
+
+/* The image as a run of writes, each word's bytes behind its register's number. */
+enum { REGISTERS = 52, WRITE_LENGTH = 5 };
+void put_writes(uint8_t *run, const uint8_t *image);
 
 #endif

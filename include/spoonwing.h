@@ -12,7 +12,7 @@
  * What holds for every call
  *   Buffers   Each pointer is followed by its length in bytes and must point to that many. Where
  *             the length is 0 nothing is read or written through it, and it may be NULL. No buffer
- *             has to be aligned.
+ *             has to be aligned. Only `done` of a run has no length: an aligned size_t, never NULL.
  *   Overlap   A buffer that a call may write must not overlap any other of that call. Those that
  *             it only reads (const) may overlap each other.
  *   Threads   Nothing is kept but what the buffers hold. Calls on several threads are safe while
@@ -40,10 +40,12 @@ extern "C" {
  *   spoonwing_frame     16, 7, 8, 9 and 10, 11, 13, 6, 14
  *   display_new         23
  *   display_write       23, 1
+ *   display_write_run   23, 1
  *   display_select      23, 2
  *   display_toggle      23
  *   display_start       23, and with the update bit set 7, 8, 9 and 10, 11
  *   display_put         23, 6, 3, 4, 5
+ *   display_put_run     23, 6, 3, 4, 5
  *   display_fill        23, 12, 13
  *   display_paint       23, 15, 12, 13, 6, 14
  *   display_frame       23, 12, 13, 6, 14
@@ -132,7 +134,12 @@ uint32_t spoonwing_frame(const uint8_t *image, size_t image_length,
  *
  * A state of another length than 436 answers 23, and everything is unchanged. Other refusals leave
  * every buffer and every part of the state as it was, but for these: a refused start has stepped
- * the frame number, and a put to a full table has set an error bit. */
+ * the frame number, and a put to a full table has set an error bit.
+ *
+ * A run is the single call made with each item in order. It stops after the first refusal, with
+ * that one's effects; what the items before it did stays. `done` becomes how many those are: the
+ * place of the refused item, or the number of all where none is refused; with 23 it becomes 0. An
+ * empty run answers 0 and changes nothing, even with tables of a wrong length. */
 
 /* Makes the state a fresh one, whatever it held: all registers and numbers 0, nothing selected.
  * 436 zero bytes are a fresh state too. */
@@ -154,6 +161,12 @@ uint32_t spoonwing_display_new(uint8_t *state, size_t state_length);
 uint32_t spoonwing_display_write(uint8_t *state, size_t state_length,
                                  uint32_t register_number, uint32_t value);
 
+/* Writes a run of registers. An item is five bytes, the register and then the value, its lowest
+ * byte first: 01 80 02 68 01 writes 640 by 360 to register 1. Fewer than five left at the end are
+ * no item and are never looked at. */
+uint32_t spoonwing_display_write_run(uint8_t *state, size_t state_length,
+                                     const uint8_t *run, size_t run_length, size_t *done);
+
 /* Selects the table for the next puts, and its first byte as their place: bits 5:3 controller,
  * which is the layer's number, bits 2:1 kind (0 instructions, 1 colours, 2 strings, 3 font), bit 0
  * bank. */
@@ -164,6 +177,12 @@ uint32_t spoonwing_display_select(uint8_t *state, size_t state_length, uint32_t 
  * 4 * controller + 1 is set and the place stays; all other refusals leave all unchanged. */
 uint32_t spoonwing_display_put(uint8_t *state, size_t state_length,
                                uint8_t *tables, size_t tables_length, uint8_t byte);
+
+/* Puts a run of bytes, each an item, from the place on: 768 are a font. With 5 those before the
+ * table's end are stored, and the error bit is set. */
+uint32_t spoonwing_display_put_run(uint8_t *state, size_t state_length,
+                                   uint8_t *tables, size_t tables_length,
+                                   const uint8_t *run, size_t run_length, size_t *done);
 
 /* Starts a frame: the frame number goes up by one, past 2^32 - 1 to 0. If the pending update bit is
  * set, the pending registers are checked, and become the active ones if they pass. Where they do
@@ -218,7 +237,8 @@ uint32_t spoonwing_display_output_height(const uint8_t *state, size_t state_leng
  *
  * Any 436 bytes stand for some state, and every call is safe on them, also where no call would have
  * made them: a layer is painted where it lies on the screen, and of layers of one depth the one of
- * greater number lies on top. A call writes 0 or 1 at 424, also when it is refused. */
+ * greater number lies on top. A call writes 0 or 1 at 424, also when it is refused or its run is
+ * empty. */
 
 #ifdef __cplusplus
 }

@@ -1,12 +1,14 @@
 /* A C program that makes the calls of a display that it reads, one row after another. A step comes
- * as twelve numbers of 32 bits, little-endian: what is done, two numbers for it, whether a buffer
- * of no bytes is passed as NULL, and for state, tables, pictures and output how many bytes are
- * lent, and then how far past a multiple of 16 each begins.
+ * as sixteen numbers of 32 bits, little-endian: what is done, two numbers for it, whether a buffer
+ * of no bytes is passed as NULL, and for state, tables, pictures, output, run and the place of a
+ * run's count how many bytes are lent, and then how far past a multiple of 16 each begins, the
+ * count's place by 0 or 8.
  *
  * A call tells its answer, 1 or 0 for whether a byte beside a buffer or of an input was touched,
  * the state's bytes, how many bytes of the tables are others now with the place and the byte of
- * each, and the output's bytes. So all bytes are told; the tables are long, and few of them change.
- * To store bytes in a buffer, and to begin a row with zeros in all of them, tells nothing. */
+ * each, and the bytes of the output and of the count. So all bytes are told; the tables are long,
+ * and few of them change. To store bytes in a buffer, and to begin a row with zeros in all of them,
+ * tells nothing. */
 #include <stdio.h>
 #include <stdlib.h>
 #include <string.h>
@@ -14,12 +16,12 @@
 #include "spoonwing.h"
 
 enum { GUARD = 64, ROOM = 1 << 17, ALIGNMENT = 16, GUARD_BYTE = 0xA5 };
-enum { STATE, TABLES, PICTURES, OUTPUT, BUFFERS };
+enum { STATE, TABLES, PICTURES, OUTPUT, RUN, COUNT, BUFFERS };
 enum { DOOR, FIRST, SECOND, NULL_IF_EMPTY, LENGTHS, PAST = LENGTHS + BUFFERS,
        NUMBERS = PAST + BUFFERS };
 
-enum { NEW, WRITE, SELECT, TOGGLE, START, PUT, FILL, PAINT, FRAME, ERROR_WORD, FRAME_NUMBER,
-       OUTPUT_WIDTH, OUTPUT_HEIGHT, STORE, BEGIN };
+enum { NEW, WRITE, SELECT, TOGGLE, START, PUT, FILL, PAINT, FRAME, PUT_RUN, WRITE_RUN, ERROR_WORD,
+       FRAME_NUMBER, OUTPUT_WIDTH, OUTPUT_HEIGHT, STORE, BEGIN };
 
 /* What each buffer's owner has, and where copies of it are lent, between guards. */
 static uint8_t owned[BUFFERS][ROOM], space[BUFFERS][ROOM + 2 * (GUARD + ALIGNMENT)];
@@ -85,7 +87,8 @@ static int is_guard(const uint8_t *bytes)
 /* Whether a call only reads a buffer. */
 static int is_input(uint32_t door, int buffer)
 {
-    return buffer == PICTURES || (buffer == TABLES && door != PUT) ||
+    return buffer == PICTURES || buffer == RUN ||
+           (buffer == TABLES && door != PUT && door != PUT_RUN) ||
            (buffer == STATE && door >= ERROR_WORD);
 }
 
@@ -102,6 +105,7 @@ static uint32_t call(const uint32_t *n, const struct lent *lent, uint8_t *const 
     uint8_t *state = at[STATE], *tables = at[TABLES], *pictures = at[PICTURES], *out = at[OUTPUT];
     size_t length = lent[STATE].length, tables_length = lent[TABLES].length;
     size_t pictures_length = lent[PICTURES].length, out_length = lent[OUTPUT].length;
+    size_t run_length = lent[RUN].length, *done = (size_t *)at[COUNT];
     switch (n[DOOR]) {
     case NEW: return spoonwing_display_new(state, length);
     case WRITE: return spoonwing_display_write(state, length, n[FIRST], n[SECOND]);
@@ -117,6 +121,10 @@ static uint32_t call(const uint32_t *n, const struct lent *lent, uint8_t *const 
     case FRAME:
         return spoonwing_display_frame(state, length, tables, tables_length, pictures,
                                        pictures_length, out, out_length);
+    case PUT_RUN:
+        return spoonwing_display_put_run(state, length, tables, tables_length, at[RUN], run_length,
+                                         done);
+    case WRITE_RUN: return spoonwing_display_write_run(state, length, at[RUN], run_length, done);
     case ERROR_WORD: return spoonwing_display_error_word(state, length);
     case FRAME_NUMBER: return spoonwing_display_frame_number(state, length);
     case OUTPUT_WIDTH: return spoonwing_display_output_width(state, length);
@@ -131,10 +139,11 @@ static void tell_changes(const struct lent *lent, const uint8_t *before)
     for (size_t i = 0; i < lent->length; i++)
         changes += lent->bytes[i] != before[i];
     tell_number(changes);
-    for (size_t i = 0; i < lent->length && changes > 0; i++)
+    for (size_t i = 0; changes > 0; i++)
         if (lent->bytes[i] != before[i]) {
             tell_number((uint32_t)i);
             tell_number(lent->bytes[i]);
+            changes--;
         }
 }
 
@@ -142,6 +151,8 @@ static void do_call(const uint32_t *numbers)
 {
     struct lent lent[BUFFERS];
     uint8_t *at[BUFFERS];
+    /* No run is so long: a count that a call does not write is seen. */
+    memset(owned[COUNT], GUARD_BYTE, sizeof(size_t));
     for (int i = 0; i < BUFFERS; i++) {
         lent[i] = lend(i, numbers);
         at[i] = numbers[NULL_IF_EMPTY] && lent[i].length == 0 ? NULL : lent[i].bytes;
@@ -154,6 +165,7 @@ static void do_call(const uint32_t *numbers)
     fwrite(lent[STATE].bytes, 1, lent[STATE].length, stdout);
     tell_changes(&lent[TABLES], owned[TABLES]);
     fwrite(lent[OUTPUT].bytes, 1, lent[OUTPUT].length, stdout);
+    fwrite(lent[COUNT].bytes, 1, lent[COUNT].length, stdout);
     fflush(stdout);
     for (int i = 0; i < BUFFERS; i++)
         memcpy(owned[i], lent[i].bytes, lent[i].length);

@@ -10,8 +10,10 @@ use Rattle.lists.proofs.Call.{itself, pair-is, tied-unique}
 use Rattle.words.specs.Fields.{widthOf, heightOf}
 use Rattle.display.specs.declared.Display.{Display}
 use Rattle.display.specs.declared.Told.{Told}
+use Rattle.display.specs.declared.Ran.{Ran}
 use Rattle.display.specs.State.{fresh, writeOf, selectOf, toggleOf, startOf}
 use Rattle.display.specs.Put.{putOf, putTables}
+use Rattle.display.specs.Runs.{putRunOf, putRunTables, writeRunOf}
 use Rattle.display.specs.Paint.{fillTold, fillBytes, paintTold, paintBytes, frameTold, frameBytes}
 use Rattle.display.proofs.Display.new.Reads as new
 use Rattle.display.proofs.Display.write.Reads as write
@@ -19,6 +21,8 @@ use Rattle.display.proofs.Display.select.Reads as select
 use Rattle.display.proofs.Display.toggle.Reads as toggle
 use Rattle.display.proofs.Display.start.Reads as start
 use Rattle.display.proofs.Display.put.Reads as put
+use Rattle.display.proofs.Display.put_run.Reads as put_run
+use Rattle.display.proofs.Display.write_run.Reads as write_run
 use Rattle.display.proofs.Display.fill.Reads as fill
 use Rattle.display.proofs.Display.paint.Reads as paint
 use Rattle.display.proofs.Display.frame.Reads as frame
@@ -87,6 +91,26 @@ put-tie = record { is = λ κs i a e. pair-is }
 
 pub put-unique : OneOutcome putCall
 put-unique = tied-unique put-tie
+
+-- ---- runs: the state, the tables and the bytes; the count is a part of the answer
+
+abbrev pub putRunCall : Call (Display × List ℕ × List ℕ) (Ran × List ℕ)
+putRunCall = callOf put_run.Post (λ κs i. (i .0, now (i .1 .0), now (i .1 .1 .0))) (λ κs a e. (a, now (e .1 .0)))
+
+pub put-run-tie : Tied putRunCall (λ x. (putRunOf (x .0) (x .1) (x .2), putRunTables (x .0) (x .1) (x .2)))
+put-run-tie = record { is = λ κs i a e. pair-is }
+
+pub put-run-unique : OneOutcome putRunCall
+put-run-unique = tied-unique put-run-tie
+
+abbrev pub writeRunCall : Call (Display × List ℕ) Ran
+writeRunCall = callOf write_run.Post (λ κs i. (i .0, now (i .1 .0))) (λ κs a e. a)
+
+pub write-run-tie : Tied writeRunCall (λ x. writeRunOf (x .0) (x .1))
+write-run-tie = record { is = λ κs i a e. itself }
+
+pub write-run-unique : OneOutcome writeRunCall
+write-run-unique = tied-unique write-run-tie
 
 -- ---- painting: the state, a band's ends, tables, pictures, output; the output is left
 

@@ -11,7 +11,7 @@ use Rattle.answers.specs.Answers.{done, noRegister, noSelection}
 use Rattle.words.specs.Fields.{updateOf}
 use Rattle.words.specs.Check.{checkOf}
 use Rattle.display.specs.declared.Display.{Display}
-use Rattle.display.specs.declared.Selection.{Selection}
+use Rattle.tables.specs.declared.Selection.{Selection}
 use Rattle.display.specs.declared.Told.{Told}
 
 -- ---- the state, and a part of it replaced

@@ -7,15 +7,17 @@ ghost use Rattle.answers.specs.Answers.{done};
 ghost use Rattle.words.specs.Fields.{widthOf, heightOf};
 ghost use Rattle.display.specs.State.{fresh, told, writeOf, selectOf, toggleOf, startOf};
 ghost use Rattle.display.specs.Put.{putOf, putTables};
+ghost use Rattle.display.specs.Runs.{toldBy, putRunOf, putRunTables, writeRunOf};
 ghost use Rattle.display.specs.Paint.{fillTold, fillBytes, paintTold, paintBytes, frameTold, frameBytes};
 ghost use Rattle.display.specs.Doors.{stateLen, takenOf, stateBytes, doorAnswer, doorState};
 ghost use Rattle.display.specs.Doors.{doorBuffer, doorRead};
 use crate::Display;
-use crate::Selection;
 use crate::Told;
+use crate::told_by;
 use answers::DONE;
 use answers::STATE_LENGTH;
 use numbers::put_words;
+use tables::Selection;
 use words::image::word_at;
 use words::image::words_at;
 
@@ -153,6 +155,49 @@ pub extern "C" fn spoonwing_display_put(state: &mut [u8], tables: &mut [u8], byt
         return STATE_LENGTH as u32;
     }
     given(taken(state).put(tables, byte), state)
+}
+
+#[no_mangle]
+pub extern "C" fn spoonwing_display_put_run(
+    state: &mut [u8],
+    tables: &mut [u8],
+    run: &[u8],
+    done: &mut usize,
+) -> u32
+    ensures answer { λ r. ⌜ r ≡ doorAnswer (now (state .entry))
+        (λ d. toldBy (putRunOf d (now (tables .entry)) (now (run .entry)))) ⌝ }
+    ensures state { λ _. ⌜ now (state .exit) ≡ doorState (now (state .entry))
+        (λ d. toldBy (putRunOf d (now (tables .entry)) (now (run .entry)))) ⌝ }
+    ensures tables { λ _. ⌜ now (tables .exit)
+        ≡ doorBuffer (now (state .entry)) (λ d. putRunTables d (now (tables .entry)) (now (run .entry)))
+        (now (tables .entry)) ⌝ }
+    ensures count { λ _. ⌜ now (done .exit)
+        ≡ doorRead (now (state .entry)) (λ d. putRunOf d (now (tables .entry)) (now (run .entry)) .done) ⌝ }
+{
+    if state.len() != STATE_LEN {
+        *done = 0;
+        return STATE_LENGTH as u32;
+    }
+    let ran = taken(state).put_run(tables, run);
+    *done = ran.done;
+    given(told_by(ran), state)
+}
+
+#[no_mangle]
+pub extern "C" fn spoonwing_display_write_run(state: &mut [u8], run: &[u8], done: &mut usize) -> u32
+    ensures answer { λ r. ⌜ r ≡ doorAnswer (now (state .entry)) (λ d. toldBy (writeRunOf d (now (run .entry)))) ⌝ }
+    ensures state { λ _. ⌜ now (state .exit)
+        ≡ doorState (now (state .entry)) (λ d. toldBy (writeRunOf d (now (run .entry)))) ⌝ }
+    ensures count { λ _. ⌜ now (done .exit)
+        ≡ doorRead (now (state .entry)) (λ d. writeRunOf d (now (run .entry)) .done) ⌝ }
+{
+    if state.len() != STATE_LEN {
+        *done = 0;
+        return STATE_LENGTH as u32;
+    }
+    let ran = taken(state).write_run(run);
+    *done = ran.done;
+    given(told_by(ran), state)
 }
 
 #[no_mangle]

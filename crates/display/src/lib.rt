@@ -4,36 +4,21 @@ ghost use mathlib.Core.Path.{_≡_};
 ghost use Rattle.words.specs.Fields.{widthOf, heightOf};
 ghost use Rattle.display.specs.State.{fresh, told, withFrame, writeOf, selectOf, toggleOf, startOf};
 ghost use Rattle.display.specs.Put.{putOf, putTables};
+ghost use Rattle.display.specs.Runs.{toldBy, putRunOf, putRunTables, writeRunOf};
 ghost use Rattle.display.specs.Paint.{fillTold, fillBytes, paintTold, paintBytes, frameTold, frameBytes};
-use answers::BANK_ACTIVE;
-use answers::BANK_FULL;
 use answers::DONE;
 use answers::NO_REGISTER;
 use answers::NO_SELECTION;
-use answers::NOT_SELECTED;
-use answers::TABLES_LENGTH;
+use loads::REGISTERS;
 use starts::refusal_of;
-use tables::TABLES_LEN;
-use tables::controller_of;
-use tables::end_of;
-use tables::first_byte_of;
-use tables::is_named;
+use tables::Selection;
 use words::fields::is_update;
 use words::fields::screen_height;
 use words::fields::screen_width;
 
 pub mod doors;
 
-const REGISTERS: u32 = 52;
-
 const SELECTIONS: u32 = 64;
-
-// The table that puts go to, and the place of the next byte in it. Until one is made nothing is selected.
-pub struct Selection {
-    made: bool,
-    number: u32,
-    place: u32,
-}
 
 // Only `new` and the calls below make one: its fields are closed to other crates.
 pub struct Display {
@@ -50,6 +35,14 @@ pub struct Told {
     pub answer: u8,
 }
 
+// What a run answers: the state afterwards, 0 or the number of the refusal that stopped it, and how many
+// items were done before it.
+pub struct Ran {
+    pub state: Display,
+    pub answer: u8,
+    pub done: usize,
+}
+
 // The state at a frame number, and an answer.
 fn at_frame(mut state: Display, frame: u32, answer: u8) -> Told
     ensures { λ r. ⌜ r ≡ told (withFrame state frame) answer ⌝ }
@@ -58,6 +51,17 @@ fn at_frame(mut state: Display, frame: u32, answer: u8) -> Told
     Told {
         state: state,
         answer: answer,
+    }
+}
+
+// What a run answers, without its count.
+fn told_by(ran: Ran) -> Told
+    ensures { λ r. ⌜ r ≡ toldBy ran ⌝ }
+{
+    let state = ran.state;
+    Told {
+        state,
+        answer: ran.answer,
     }
 }
 
@@ -153,43 +157,42 @@ impl Display {
     // Stores a byte in the selected table and goes on to the next place. Refused, in this order, with 6
     // where `tables` is not 29,696 bytes, 3 where nothing is selected, 4 where the active words name
     // the bank, and 5 at the table's end, which sets an error bit; else a refusal changes nothing.
-    pub fn put(mut self, tables: &mut [u8], byte: u8) -> Told
+    pub fn put(self, tables: &mut [u8], byte: u8) -> Told
         ensures state { λ r. ⌜ r ≡ putOf self (now (tables .entry)) ⌝ }
         ensures tables { λ _. ⌜ now (tables .exit) ≡ putTables self (now (tables .entry)) byte ⌝ }
     {
-        if tables.len() != TABLES_LEN {
-            return Told {
-                state: self,
-                answer: TABLES_LENGTH,
-            };
-        }
-        if !self.selection.made {
-            return Told {
-                state: self,
-                answer: NOT_SELECTED,
-            };
-        }
-        let selection = self.selection.number;
-        if is_named(&self.active, selection) {
-            return Told {
-                state: self,
-                answer: BANK_ACTIVE,
-            };
-        }
-        let place = self.selection.place;
-        if place < end_of(selection) {
-            let at = first_byte_of(selection) + (place as usize);
-            tables[at] = byte;
-            self.selection.place = place + 1;
-            return Told {
-                state: self,
-                answer: DONE,
-            };
-        }
-        self.errors = self.errors | (1 << (4 * controller_of(selection) + 1));
-        Told {
+        let run = [byte];
+        told_by(self.put_run(tables, &run))
+    }
+
+    // Puts each byte of a run, in order, up to the first that is refused: as many calls of `put`. An empty
+    // run changes nothing, whatever the tables.
+    pub fn put_run(mut self, tables: &mut [u8], run: &[u8]) -> Ran
+        ensures state { λ r. ⌜ r ≡ putRunOf self (now (tables .entry)) (now (run .entry)) ⌝ }
+        ensures tables { λ _. ⌜ now (tables .exit) ≡ putRunTables self (now (tables .entry)) (now (run .entry)) ⌝ }
+    {
+        let selection = self.selection;
+        let loaded = loads::put_run(&self.active, self.errors, selection, tables, run);
+        self.selection.place = loaded.place;
+        self.errors = loaded.errors;
+        Ran {
             state: self,
-            answer: BANK_FULL,
+            answer: loaded.answer,
+            done: loaded.done,
+        }
+    }
+
+    // Makes each register write of a run, in order, up to the first that is refused: as many calls of
+    // `write`. An item is five bytes, register then value, the lowest byte first; fewer left at the end
+    // are not looked at.
+    pub fn write_run(mut self, run: &[u8]) -> Ran
+        ensures { λ r. ⌜ r ≡ writeRunOf self (now (run .entry)) ⌝ }
+    {
+        let went = loads::write_run(&mut self.pending, run);
+        Ran {
+            state: self,
+            answer: went.answer,
+            done: went.done,
         }
     }
 

@@ -11,8 +11,8 @@ use borrow.Author.Tests.{ltb-true, eqb-true}
 use lib.Bits.{bitOr, bitXor, or-lt, xor-lt}
 use lib.Pow.{pow-lt, pow-pos}
 use lib.Dec.{ltb, eqb}
-use lib.ListN.{length, getD, replicate, set, length-set}
-use lib.Seq.{getD-set-same, getD-set-other}
+use lib.ListN.{length, getD, drop, replicate, set, length-set}
+use lib.Seq.{getD-drop, getD-set-same, getD-set-other}
 use Rattle.lists.specs.Little.{littleAt}
 use Rattle.lists.specs.Tab.{tab}
 use Rattle.lists.proofs.Choice.{same-or, pick-keeps, choose-keeps}
@@ -20,26 +20,30 @@ use Rattle.lists.proofs.Run.{run-keeps}
 use Rattle.lists.proofs.Tab.{length-tab}
 use Rattle.lists.proofs.Little.{little-fits}
 use Rattle.answers.specs.Answers.{done, bankFull}
+use Rattle.runs.specs.Writes.{Write, firstWrites, writesIn}
+use Rattle.runs.proofs.RunLaws.{Each, each-any}
+use Rattle.runs.proofs.RunLaws as run
 use Rattle.words.specs.Fields.{updateOf, shownOf, layerOf}
 use Rattle.words.specs.Order.{here}
 use Rattle.words.specs.Check.{checkOf}
 use Rattle.words.specs.Image.{wordsFrom}
 use Rattle.tables.specs.Selection.{kindOf, endOf, controllerOf}
+use Rattle.tables.specs.declared.Selection.{Selection}
 use Rattle.tables.proofs.Geometry.{kind-room}
 use Rattle.frames.specs.Scene.{Scene}
 use Rattle.frames.specs.Band.{layerStep, depthStep, bandBy, missing, markAt, errorsOf}
 use Rattle.frames.specs.Frame.{refusalOf, errorsAfter}
 use Rattle.display.specs.declared.Display.{Display}
-use Rattle.display.specs.declared.Selection.{Selection}
 use Rattle.display.specs.declared.Told.{Told}
 use Rattle.display.specs.State.{fresh, withPending, withActive, withFrame, withErrors, withSelection, stepped, writeOf}
 use Rattle.display.specs.State.{selectOf, toggleOf, startOf}
 use Rattle.display.specs.Put.{putAnswer, putState, putOf}
+use Rattle.display.specs.Runs.{lent, putOne, puts, putRunOf, writeOne, writes, writeRunOf}
 use Rattle.display.specs.Paint.{sceneWith, fillTold, paintTold, frameTold}
 use Rattle.display.specs.Doors.{takenOf}
 use Rattle.display.proofs.Sound.{below-end}
 use Rattle.doors.specs.Rows.{AreWords, Fits, Ask, ask-new, ask-write, ask-select, ask-toggle, ask-start, ask-put}
-use Rattle.doors.specs.Rows.{ask-fill, ask-paint, ask-frame, Typed, tellsOf}
+use Rattle.doors.specs.Rows.{ask-put-run, ask-write-run, ask-fill, ask-paint, ask-frame, Typed, tellsOf}
 
 -- ---- out of bytes
 
@@ -235,14 +239,39 @@ module _ (d : Display) (f : Fits d) where
   unfolding frameTold
   frame-fits tables pictures out = paint-fits 0 8 tables pictures out
 
+-- ---- the runs: each call of one keeps it
+
+-- the values of a run's writes are of four bytes
+values-fit : (n : ℕ) (run : List ℕ) → ((i : ℕ) → getD run i 0 < 256)
+    → Each (λ (w : Write). w .value < 2 ^ 32) (firstWrites n run)
+unfolding firstWrites
+values-fit zero run b = tt
+values-fit (suc n) run b =
+    (little-fits run b 1, values-fit n (drop 5 run) (λ i. rw (getD-drop 5 run i 0) (b (5 + i))))
+
+module _ (d : Display) (f : Fits d) where
+  put-run-fits : (tables run : List ℕ) → Fits (putRunOf d tables run .state)
+  unfolding putRunOf puts
+  put-run-fits tables row =
+      run.run-keeps putOne (λ l. Fits (l .state)) (λ x. Unit {0}) (λ l x q p. put-fits (l .state) p (l .tables)) row
+      (lent d tables) (each-any row) f
+
+  write-run-fits : (run : List ℕ) → ((i : ℕ) → getD run i 0 < 256) → Fits (writeRunOf d run .state)
+  unfolding writeRunOf writes writesIn
+  write-run-fits row b =
+      run.run-keeps writeOne Fits (λ w. w .value < 2 ^ 32) (λ e w q p. write-fits e p (w .register) (w .value) q)
+      (writesIn row) d (values-fit (length row / 5) row b) f
+
   -- each of them
   pub call-fits : (a : Ask) → Typed a → Fits (tellsOf a d .state)
   call-fits ask-new t = fresh-fits
-  call-fits (ask-write register value) t = write-fits register value t
-  call-fits (ask-select selection) t = select-fits selection
+  call-fits (ask-write register value) t = write-fits d f register value t
+  call-fits (ask-select selection) t = select-fits d f selection
   call-fits (ask-toggle bits) t = errors-kept d f _ (xor-lt 32 (d .errors) bits (f .errors) t)
-  call-fits ask-start t = start-fits
-  call-fits (ask-put tables byte) t = put-fits tables
-  call-fits (ask-fill out) t = fill-fits out
-  call-fits (ask-paint low high tables pictures out) t = paint-fits low high tables pictures out
-  call-fits (ask-frame tables pictures out) t = frame-fits tables pictures out
+  call-fits ask-start t = start-fits d f
+  call-fits (ask-put tables byte) t = put-fits d f tables
+  call-fits (ask-put-run tables run) t = put-run-fits tables run
+  call-fits (ask-write-run run) t = write-run-fits run t
+  call-fits (ask-fill out) t = fill-fits d f out
+  call-fits (ask-paint low high tables pictures out) t = paint-fits d f low high tables pictures out
+  call-fits (ask-frame tables pictures out) t = frame-fits d f tables pictures out

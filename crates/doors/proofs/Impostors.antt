@@ -8,28 +8,31 @@ use mathlib.Core.List.{List, [], _∷_}
 use native.Mathlib.Omega.{arith}
 use lib.ListN.{length, getD}
 use Rattle.lists.specs.Call.{Meets}
-use Rattle.lists.proofs.Call.{pair-is, triple-is, tied-meets}
+use Rattle.lists.proofs.Call.{pair-is, triple-is, quadruple-is, tied-meets}
 use Rattle.answers.specs.Answers.{done}
 use Rattle.display.specs.declared.Display.{Display}
 use Rattle.display.specs.declared.Told.{Told}
 use Rattle.display.specs.State.{fresh, told, startOf, writeOf, selectOf, toggleOf}
 use Rattle.display.specs.Put.{putOf}
+use Rattle.display.specs.Runs.{toldBy, putRunOf, writeRunOf}
 use Rattle.display.proofs.PutLaws.{put-done}
 use Rattle.display.specs.Paint.{fillTold, fillBytes, paintTold, paintBytes, frameTold, frameBytes}
 use Rattle.display.specs.Doors.{takenOf, stateBytes}
-use Rattle.laws.specs.Small.{grey, night, written, started, selecting, blank, filled, white, clear, dim, bright}
+use Rattle.laws.specs.Small.{grey, night, written, started, selecting, oneWrite, blank, filled, white, clear, dim}
+use Rattle.laws.specs.Small.{bright}
 use Rattle.laws.specs.Small.{painted, framed}
 use Rattle.laws.specs.Impostors.{TurnsDown, Rule, lowest, by256, numbered, groundLast, paintBy, frameBy}
 use Rattle.laws.proofs.Small as small
-use Rattle.laws.proofs.Impostors.{differ, one-frame, lowest-frame, by256-frame, numbered-frame}
+use Rattle.laws.proofs.Runs.{put-run-one, put-run-all, write-run-all}
+use Rattle.laws.proofs.Impostors.{write-one, differ, one-frame, lowest-frame, by256-frame, numbered-frame}
 use Rattle.laws.proofs.Impostors.{same-frame, dim-bright}
-use Rattle.doors.specs.Rows.{Fits, Holds, ask-write, ask-select, ask-toggle, ask-start, ask-put}
+use Rattle.doors.specs.Rows.{Fits, Holds, ask-write, ask-select, ask-toggle, ask-start, ask-put, ask-put-run}
 use Rattle.doors.proofs.Fits.{fresh-fits, call-fits}
-use Rattle.doors.proofs.Round.{taken-back, answer-held, state-held, buffer-held}
+use Rattle.doors.proofs.Round.{taken-back, answer-held, state-held, buffer-held, read-held}
 use Rattle.doors.proofs.Unique.{newDoor, writeDoor, selectDoor, toggleDoor, startDoor, putDoor, fillDoor}
 use Rattle.doors.proofs.Unique.{paintDoor, frameDoor, new-door-tie, write-door-tie, select-door-tie}
 use Rattle.doors.proofs.Unique.{toggle-door-tie, start-door-tie, put-door-tie, fill-door-tie, paint-door-tie}
-use Rattle.doors.proofs.Unique.{frame-door-tie}
+use Rattle.doors.proofs.Unique.{frame-door-tie, putRunDoor, writeRunDoor, put-run-door-tie, write-run-door-tie}
 
 -- ---- the states, as bytes
 
@@ -95,6 +98,20 @@ module _ (a : ℕ) (s : List ℕ) (down : TurnsDown a) where
       down (triple-is .1 (tied-meets put-door-tie m) .0
       ∙ answer-held _ selecting selecting-held (λ d. putOf d blank) ∙ small.put-accepted)
 
+  -- with any count
+  pub put-run-door-down : (t : List ℕ) (n : ℕ)
+      → Meets putRunDoor (stateBytes selecting, blank, 7 ∷ []) (a, s, t, n) → ⊥
+  put-run-door-down t n m =
+      down (quadruple-is .1 (tied-meets put-run-door-tie m) .0
+      ∙ answer-held _ selecting selecting-held (λ d. toldBy (putRunOf d blank (7 ∷ [])))
+      ∙ ap (λ (r : Told). r .answer) (put-run-one selecting blank 7 .0) ∙ small.put-accepted)
+
+  pub write-run-door-down : (n : ℕ) → Meets writeRunDoor (stateBytes fresh, oneWrite) (a, s, n) → ⊥
+  write-run-door-down n m =
+      down (triple-is .1 (tied-meets write-run-door-tie m) .0
+      ∙ answer-held _ fresh fresh-held (λ d. toldBy (writeRunOf d oneWrite))
+      ∙ ap (λ (r : Told). r .answer) write-one ∙ small.write-accepted)
+
   pub fill-door-down : (o : List ℕ) → Meets fillDoor (stateBytes (started grey), filled) (a, s, o) → ⊥
   fill-door-down o m =
       down (triple-is .1 (tied-meets fill-door-tie m) .0
@@ -158,6 +175,45 @@ put-door-untouched t m =
     (λ (d : Display). d .selection .place)
     (λ (z : 0 ≡ putOf selecting blank .state .selection .place). omega (arith, stored))
     (triple-is .1 (tied-meets put-door-tie m) .1 .0 ∙ state-held _ selecting selecting-held (λ d. putOf d blank))
+
+-- with any count
+pub put-run-door-untouched : (t : List ℕ) (n : ℕ)
+    → Meets putRunDoor (stateBytes selecting, blank, 7 ∷ []) (done, stateBytes selecting, t, n) → ⊥
+put-run-door-untouched t n m =
+    let one = put-run-one selecting blank 7 .0 ∙ sym (put-done selecting blank 7 small.put-passes .0) in
+    let stored : putRunOf selecting blank (7 ∷ []) .state .selection .place ≡ 1 =
+    ap (λ (r : Told). r .state .selection .place) one in
+    bytes-apart selecting (putRunOf selecting blank (7 ∷ []) .state) (selecting-held .fits)
+    (call-fits selecting (selecting-held .fits) (ask-put-run blank (7 ∷ [])) tt)
+    (λ (d : Display). d .selection .place)
+    (λ (z : 0 ≡ putRunOf selecting blank (7 ∷ []) .state .selection .place). omega (arith, stored))
+    (quadruple-is .1 (tied-meets put-run-door-tie m) .1 .0
+    ∙ state-held _ selecting selecting-held (λ d. toldBy (putRunOf d blank (7 ∷ []))))
+
+pub write-run-door-untouched : (n : ℕ) → Meets writeRunDoor (stateBytes fresh, oneWrite) (done, stateBytes fresh, n) → ⊥
+write-run-door-untouched n m =
+    bytes-apart fresh (writeOf fresh 0 1 .state) fresh-fits (call-fits fresh fresh-fits (ask-write 0 1) (omega arith))
+    (λ (d : Display). getD (d .pending) 0 0) (λ (z : 0 ≡ 1). omega arith)
+    (triple-is .1 (tied-meets write-run-door-tie m) .1 .0
+    ∙ state-held _ fresh fresh-held (λ d. toldBy (writeRunOf d oneWrite))
+    ∙ ap (λ (r : Told). stateBytes (r .state)) write-one)
+
+-- ---- a count of anything but the one item
+
+module _ (a : ℕ) (s : List ℕ) (n : ℕ) (miscounted : n ≡ 1 → ⊥) where
+  pub put-run-door-miscounted : (t : List ℕ) → Meets putRunDoor (stateBytes selecting, blank, 7 ∷ []) (a, s, t, n) → ⊥
+  put-run-door-miscounted t m =
+      let passed = ap (λ (r : Told). r .answer) (put-run-one selecting blank 7 .0) ∙ small.put-accepted in
+      miscounted (quadruple-is .1 (tied-meets put-run-door-tie m) .1 .1 .1
+      ∙ read-held _ selecting selecting-held (λ d. putRunOf d blank (7 ∷ []) .done)
+      ∙ put-run-all selecting blank (7 ∷ []) passed)
+
+  pub write-run-door-miscounted : Meets writeRunDoor (stateBytes fresh, oneWrite) (a, s, n) → ⊥
+  write-run-door-miscounted m =
+      let passed = ap (λ (r : Told). r .answer) write-one ∙ small.write-accepted in
+      miscounted (triple-is .1 (tied-meets write-run-door-tie m) .1 .1
+      ∙ read-held _ fresh fresh-held (λ d. writeRunOf d oneWrite .done)
+      ∙ write-run-all fresh oneWrite passed)
 
 -- ---- what a door of painting leaves is what is promised of the display's call
 

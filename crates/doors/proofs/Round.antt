@@ -21,7 +21,8 @@ use Rattle.display.specs.State.{display, selectionOf, fresh}
 use Rattle.display.specs.Doors.{stateLen, takenOf, lastWords, stateWords, stateBytes, doorAnswer, doorState}
 use Rattle.display.specs.Doors.{doorBuffer, doorRead}
 use Rattle.display.proofs.DoorLaws.{taken-all, in-pending, in-active, in-last}
-use Rattle.doors.specs.Rows.{AreWords, Fits, Holds, Ask, Typed, AllTyped, tellsOf, lentTo, leftBy, Seen, seenOf}
+use Rattle.doors.specs.Rows.{AreWords, Fits, Holds, Ask, Typed, AllTyped, tellsOf, lentTo, leftBy, countBy}
+use Rattle.doors.specs.Rows.{Seen, seenOf}
 use Rattle.doors.specs.Rows.{stateAfter, seenAfter, bytesAfter, seenByC}
 use Rattle.doors.proofs.Fits.{taken-fits, fresh-fits, call-fits}
 
@@ -125,9 +126,13 @@ row-held [] s d h t = h
 row-held (a ∷ rest) s d h t = row-held rest (doorState s (tellsOf a)) (tellsOf a d .state) (call-held s d h a (t .0))
     (t .1)
 
+-- what is seen of one call is the same where each part is
+seen-is : {a a′ n n′ : ℕ} {b b′ : List ℕ} → a ≡ a′ → n ≡ n′ → b ≡ b′ → seenOf a n b ≡ seenOf a′ n′ b′
+seen-is p q r = rw (p, q, r)
+
 pub row-seen : (row : List Ask) (s : List ℕ) (d : Display) → Holds s d → AllTyped row → seenByC row s ≡ seenAfter row d
 row-seen [] s d h t = refl
 row-seen (a ∷ rest) s d h t =
     ap₂ (λ (x : Seen) (l : List Seen). x ∷ l)
-    (ap₂ seenOf (answer-held s d h (tellsOf a)) (buffer-held s d h (leftBy a) (lentTo a)))
+    (seen-is (answer-held s d h (tellsOf a)) (read-held s d h (countBy a)) (buffer-held s d h (leftBy a) (lentTo a)))
     (row-seen rest (doorState s (tellsOf a)) (tellsOf a d .state) (call-held s d h a (t .0)) (t .1))

@@ -3,16 +3,15 @@
 -- in `display/src/doors.rt`. An outcome is the answer and every byte of the state and of the buffer that the
 -- call writes. Assumes nothing.
 use Prim.Native.Nat.{ℕ}
-use mathlib.Core.Path.{_≡_}
-use mathlib.Core.Logic.{_↔_}
 use mathlib.Core.List.{List}
 use denote.Ref.{now}
 use Rattle.lists.specs.Call.{Call, callOf, Tied, OneOutcome}
-use Rattle.lists.proofs.Call.{itself, pair-is, triple-is, tied-unique}
+use Rattle.lists.proofs.Call.{itself, pair-is, triple-is, quadruple-is, tied-unique}
 use Rattle.answers.specs.Answers.{done}
 use Rattle.words.specs.Fields.{widthOf, heightOf}
 use Rattle.display.specs.State.{fresh, told, writeOf, selectOf, toggleOf, startOf}
 use Rattle.display.specs.Put.{putOf, putTables}
+use Rattle.display.specs.Runs.{toldBy, putRunOf, putRunTables, writeRunOf}
 use Rattle.display.specs.Paint.{fillTold, fillBytes, paintTold, paintBytes, frameTold, frameBytes}
 use Rattle.display.specs.Doors.{doorAnswer, doorState, doorBuffer, doorRead}
 use Rattle.display.proofs.doors.spoonwing_display_new.Reads as new
@@ -21,6 +20,8 @@ use Rattle.display.proofs.doors.spoonwing_display_select.Reads as select
 use Rattle.display.proofs.doors.spoonwing_display_toggle.Reads as toggle
 use Rattle.display.proofs.doors.spoonwing_display_start.Reads as start
 use Rattle.display.proofs.doors.spoonwing_display_put.Reads as put
+use Rattle.display.proofs.doors.spoonwing_display_put_run.Reads as put_run
+use Rattle.display.proofs.doors.spoonwing_display_write_run.Reads as write_run
 use Rattle.display.proofs.doors.spoonwing_display_fill.Reads as fill
 use Rattle.display.proofs.doors.spoonwing_display_paint.Reads as paint
 use Rattle.display.proofs.doors.spoonwing_display_frame.Reads as frame
@@ -111,6 +112,40 @@ put-door-tie = record { is = λ κs i a e. triple-is }
 
 pub put-door-unique : OneOutcome putDoor
 put-door-unique = tied-unique put-door-tie
+
+-- the state, the tables and the run; the count is told too
+abbrev pub putRunDoor : Call (List ℕ × List ℕ × List ℕ) (ℕ × List ℕ × List ℕ × ℕ)
+putRunDoor =
+    callOf put_run.Post (λ κs i. (now (i .0), now (i .1 .0), now (i .1 .1 .0)))
+    (λ κs a e. (a, now (e .0), now (e .1 .0), now (e .1 .1 .1 .0)))
+
+pub put-run-door-tie : Tied putRunDoor
+    (λ x. (
+      doorAnswer (x .0) (λ d. toldBy (putRunOf d (x .1) (x .2))),
+      doorState (x .0) (λ d. toldBy (putRunOf d (x .1) (x .2))),
+      doorBuffer (x .0) (λ d. putRunTables d (x .1) (x .2)) (x .1),
+      doorRead (x .0) (λ d. putRunOf d (x .1) (x .2) .done),
+    ))
+put-run-door-tie = record { is = λ κs i a e. quadruple-is }
+
+pub put-run-door-unique : OneOutcome putRunDoor
+put-run-door-unique = tied-unique put-run-door-tie
+
+-- the state and the run
+abbrev pub writeRunDoor : Call (List ℕ × List ℕ) (ℕ × List ℕ × ℕ)
+writeRunDoor =
+    callOf write_run.Post (λ κs i. (now (i .0), now (i .1 .0))) (λ κs a e. (a, now (e .0), now (e .1 .1 .0)))
+
+pub write-run-door-tie : Tied writeRunDoor
+    (λ x. (
+      doorAnswer (x .0) (λ d. toldBy (writeRunOf d (x .1))),
+      doorState (x .0) (λ d. toldBy (writeRunOf d (x .1))),
+      doorRead (x .0) (λ d. writeRunOf d (x .1) .done),
+    ))
+write-run-door-tie = record { is = λ κs i a e. triple-is }
+
+pub write-run-door-unique : OneOutcome writeRunDoor
+write-run-door-unique = tied-unique write-run-door-tie
 
 -- the state and the output
 abbrev pub fillDoor : Call (List ℕ × List ℕ) (ℕ × List ℕ × List ℕ)

@@ -8,8 +8,9 @@ use Rattle.display.specs.declared.Display.{Display}
 use Rattle.display.specs.declared.Told.{Told}
 use Rattle.display.specs.State.{fresh, told, writeOf, selectOf, toggleOf, startOf}
 use Rattle.display.specs.Put.{putOf, putTables}
+use Rattle.display.specs.Runs.{toldBy, putRunOf, putRunTables, writeRunOf}
 use Rattle.display.specs.Paint.{fillTold, fillBytes, paintTold, paintBytes, frameTold, frameBytes}
-use Rattle.display.specs.Doors.{stateBytes, doorAnswer, doorState, doorBuffer}
+use Rattle.display.specs.Doors.{stateBytes, doorAnswer, doorState, doorBuffer, doorRead}
 
 -- ---- a state and its bytes
 
@@ -43,18 +44,22 @@ pub data Ask : Type 0 where
   ask-toggle : (bits : ℕ) → Ask
   ask-start : Ask
   ask-put : (tables : List ℕ) (byte : ℕ) → Ask
+  ask-put-run : (tables run : List ℕ) → Ask
+  ask-write-run : (run : List ℕ) → Ask
   ask-fill : (out : List ℕ) → Ask
   ask-paint : (low high : ℕ) (tables pictures out : List ℕ) → Ask
   ask-frame : (tables pictures out : List ℕ) → Ask
 
--- numbers that become a part of the state have 32 bits, as their types have it
+-- numbers that become a part of the state have 32 bits, and bytes that do 8, as their types have it
 abbrev pub Typed : Ask → Type 0
 Typed (ask-write register value) = value < 2 ^ 32
+Typed (ask-write-run run) = (i : ℕ) → getD run i 0 < 256
 Typed (ask-toggle bits) = bits < 2 ^ 32
 Typed ask-new = Unit {0}
 Typed (ask-select selection) = Unit {0}
 Typed ask-start = Unit {0}
 Typed (ask-put tables byte) = Unit {0}
+Typed (ask-put-run tables run) = Unit {0}
 Typed (ask-fill out) = Unit {0}
 Typed (ask-paint low high tables pictures out) = Unit {0}
 Typed (ask-frame tables pictures out) = Unit {0}
@@ -67,6 +72,8 @@ tellsOf (ask-select selection) d = selectOf d selection
 tellsOf (ask-toggle bits) d = toggleOf d bits
 tellsOf ask-start d = startOf d
 tellsOf (ask-put tables byte) d = putOf d tables
+tellsOf (ask-put-run tables run) d = toldBy (putRunOf d tables run)
+tellsOf (ask-write-run run) d = toldBy (writeRunOf d run)
 tellsOf (ask-fill out) d = fillTold d out
 tellsOf (ask-paint low high tables pictures out) d = paintTold d low high tables pictures out
 tellsOf (ask-frame tables pictures out) d = frameTold d tables pictures out
@@ -79,6 +86,8 @@ lentTo (ask-select selection) = []
 lentTo (ask-toggle bits) = []
 lentTo ask-start = []
 lentTo (ask-put tables byte) = tables
+lentTo (ask-put-run tables run) = tables
+lentTo (ask-write-run run) = []
 lentTo (ask-fill out) = out
 lentTo (ask-paint low high tables pictures out) = out
 lentTo (ask-frame tables pictures out) = out
@@ -91,20 +100,37 @@ leftBy (ask-select selection) d = []
 leftBy (ask-toggle bits) d = []
 leftBy ask-start d = []
 leftBy (ask-put tables byte) d = putTables d tables byte
+leftBy (ask-put-run tables run) d = putRunTables d tables run
+leftBy (ask-write-run run) d = []
 leftBy (ask-fill out) d = fillBytes d out
 leftBy (ask-paint low high tables pictures out) d = paintBytes d low high tables pictures out
 leftBy (ask-frame tables pictures out) d = frameBytes d tables pictures out
 
+-- how many items it tells that it has done; 0 where it tells none
+abbrev pub countBy : Ask → Display → ℕ
+countBy (ask-put-run tables run) d = putRunOf d tables run .done
+countBy (ask-write-run run) d = writeRunOf d run .done
+countBy ask-new d = 0
+countBy (ask-write register value) d = 0
+countBy (ask-select selection) d = 0
+countBy (ask-toggle bits) d = 0
+countBy ask-start d = 0
+countBy (ask-put tables byte) d = 0
+countBy (ask-fill out) d = 0
+countBy (ask-paint low high tables pictures out) d = 0
+countBy (ask-frame tables pictures out) d = 0
+
 -- ---- a row of calls
 
--- what is seen of one: its answer, and the buffer that it writes
+-- what is seen of one: its answer, the count, and the buffer that it writes
 pub record Seen : Type 0 where
   pub answer : ℕ
+  pub count : ℕ
   pub buffer : List ℕ
 
--- one made of its two parts
-abbrev pub seenOf : ℕ → List ℕ → Seen
-seenOf answer buffer = record { answer = answer; buffer = buffer }
+-- one made of its three parts
+abbrev pub seenOf : ℕ → ℕ → List ℕ → Seen
+seenOf answer count buffer = record { answer = answer; count = count; buffer = buffer }
 
 -- the state that a row of the display's calls leaves
 abbrev pub stateAfter : List Ask → Display → Display
@@ -114,7 +140,8 @@ stateAfter (a ∷ rest) d = stateAfter rest (tellsOf a d .state)
 -- and what is seen of each
 abbrev pub seenAfter : List Ask → Display → List Seen
 seenAfter [] d = []
-seenAfter (a ∷ rest) d = seenOf (tellsOf a d .answer) (leftBy a d) ∷ seenAfter rest (tellsOf a d .state)
+seenAfter (a ∷ rest) d =
+    seenOf (tellsOf a d .answer) (countBy a d) (leftBy a d) ∷ seenAfter rest (tellsOf a d .state)
 
 -- the bytes that a row of calls through doors leaves
 abbrev pub bytesAfter : List Ask → List ℕ → List ℕ
@@ -125,7 +152,8 @@ bytesAfter (a ∷ rest) s = bytesAfter rest (doorState s (tellsOf a))
 abbrev pub seenByC : List Ask → List ℕ → List Seen
 seenByC [] s = []
 seenByC (a ∷ rest) s =
-    seenOf (doorAnswer s (tellsOf a)) (doorBuffer s (leftBy a) (lentTo a)) ∷ seenByC rest (doorState s (tellsOf a))
+    seenOf (doorAnswer s (tellsOf a)) (doorRead s (countBy a)) (doorBuffer s (leftBy a) (lentTo a))
+    ∷ seenByC rest (doorState s (tellsOf a))
 
 -- a row whose numbers all have 32 bits
 abbrev pub AllTyped : List Ask → Type 0

@@ -1,4 +1,5 @@
-// Reads a script from standard input and prints a line for each record: of those in `stage`, and of
+// Reads a script from standard input and prints a line for each record: of those in `stage`, with
+// the count of a run's items that were done (0 where there is no run), and of
 //
 //     V  32 bytes of the output from a on
 //     M  all blends at alpha a        E  fades of length a
@@ -12,11 +13,12 @@ use crate::stage;
 use crate::stage::Stage;
 use libc::STDIN_FILENO;
 
-// The letter, the answer (00 where nothing was called), what the state tells, and the checksums of
-// all tables and all output, lent or not.
+// The letter, the answer (00 where nothing was called), the count, what the state tells, and the
+// checksums of all tables and all output, lent or not.
 fn show(letter: u8, s: Stage, tables: &[u8], out: &[u8]) {
     print::letter(letter);
     print::column(s.answer as u32, 2);
+    print::column((s.done % 4294967296) as u32, 8);
     print::column(s.state.error_word(), 8);
     print::column(s.state.frame_number(), 8);
     print::column(s.state.output_width() as u32, 3);

@@ -3,13 +3,15 @@
 //     N  a fresh display, zeros in the buffers, whole tables and nothing else lent
 //     L  lend b bytes of the tables (a is 0), the pictures (1) or the output (any other)
 //     K  fill the tables, I the pictures, D the output, by a pattern from a in steps of b
-//     Q  store the word b at byte a of the tables
+//     Q  store the word b at byte a of the tables, J of the pictures
 //     W  write b to register a        S  select a         T  toggle a         G  start
 //     P  put byte a, and b times more (up to 1,023)       F  fill
+//     U  put a run, X write a run: the b bytes of the pictures from a on, or what there is of them
 //     B  paint the band a..b          R  paint a whole frame
 use crate::buffers;
 use crate::record::Record;
 use display::Display;
+use display::Ran;
 use display::Told;
 use tables::TABLES_LEN;
 
@@ -20,9 +22,11 @@ pub struct Lent {
     pub out: u32,
 }
 
+// After a record: what its call answered, and how many items that did if it was a run.
 pub struct Stage {
     pub state: Display,
     pub answer: u8,
+    pub done: usize,
     pub lent: Lent,
 }
 
@@ -31,6 +35,7 @@ pub fn fresh() -> Stage {
     Stage {
         state: Display::new(),
         answer: 0,
+        done: 0,
         lent: Lent {
             tables: TABLES_LEN as u32,
             pictures: 0,
@@ -53,6 +58,19 @@ fn put_often(state: Display, tables: &mut [u8], lent: Lent, byte: u8, more: u32)
         left -= 1;
     }
     told
+}
+
+// A run of puts, of so many of the bytes.
+fn put_run(state: Display, tables: &mut [u8], lent: Lent, bytes: &[u8], length: u32) -> Ran {
+    let t = io::count(lent.tables as isize, tables);
+    let n = io::count(length as isize, bytes);
+    state.put_run(&mut tables[..t], &bytes[..n])
+}
+
+// A run of writes, of so many of the bytes.
+fn write_run(state: Display, bytes: &[u8], length: u32) -> Ran {
+    let n = io::count(length as isize, bytes);
+    state.write_run(&bytes[..n])
 }
 
 fn fill(state: Display, out: &mut [u8], lent: Lent) -> Told {
@@ -104,11 +122,12 @@ fn change(r: Record, tables: &mut [u8], pictures: &mut [u8], out: &mut [u8]) {
         b'I' => buffers::fill(pictures, r.a, r.b, true),
         b'D' => buffers::fill(out, r.a, r.b, false),
         b'Q' => buffers::set_word(tables, r.a, r.b),
+        b'J' => buffers::set_word(pictures, r.a, r.b),
         _ => {}
     }
 }
 
-// The records that call the display; for others the state as it is, and 0.
+// The records that make one call of the display; for others the state as it is, and 0.
 fn call(
     state: Display,
     lent: Lent,
@@ -134,6 +153,32 @@ fn call(
     }
 }
 
+// The records that make a run; what others call counts nothing.
+fn run(
+    state: Display,
+    lent: Lent,
+    r: Record,
+    tables: &mut [u8],
+    pictures: &[u8],
+    out: &mut [u8],
+) -> Ran {
+    let letter = r.letter;
+    let at = io::count(r.a as isize, pictures);
+    match letter {
+        b'U' => put_run(state, tables, lent, &pictures[at..], r.b),
+        b'X' => write_run(state, &pictures[at..], r.b),
+        _ => {
+            let told = call(state, lent, r, tables, pictures, out);
+            let after = told.state;
+            Ran {
+                state: after,
+                answer: told.answer,
+                done: 0,
+            }
+        }
+    }
+}
+
 // A fresh display, and zeros in every buffer.
 fn renew(tables: &mut [u8], pictures: &mut [u8], out: &mut [u8]) -> Stage {
     buffers::fill(tables, 0, 0, false);
@@ -149,11 +194,12 @@ pub fn play(s: Stage, r: Record, tables: &mut [u8], pictures: &mut [u8], out: &m
     }
     change(r, tables, pictures, out);
     let lent = lend(s.lent, r);
-    let told = call(s.state, lent, r, tables, pictures, out);
-    let state = told.state;
+    let ran = run(s.state, lent, r, tables, pictures, out);
+    let state = ran.state;
     Stage {
         state: state,
-        answer: told.answer,
+        answer: ran.answer,
+        done: ran.done,
         lent: lent,
     }
 }

@@ -9,6 +9,7 @@ use borrow.Author.Tests.{eq-eqb}
 use lib.ListN.{length, getD, take, getD-replicate}
 use lib.Seq.{getD-set-same}
 use Rattle.lists.specs.Call.{Meets}
+use Rattle.lists.specs.Little.{littleAt}
 use Rattle.lists.specs.Over.{over}
 use Rattle.lists.specs.Steps.{through, keep}
 use Rattle.lists.proofs.Call.{pair-is, tied-meets}
@@ -18,21 +19,25 @@ use Rattle.tables.specs.Geometry.{tablesLen, kindAt}
 use Rattle.frames.specs.Scene.{Scene}
 use Rattle.frames.specs.Band.{pixelAt, bandByte, bandOf}
 use Rattle.display.specs.declared.Told.{Told}
-use Rattle.display.specs.State.{fresh}
+use Rattle.display.specs.declared.Ran.{Ran}
+use Rattle.display.specs.State.{fresh, writeOf}
+use Rattle.display.specs.Runs.{ran, toldBy, writeRunOf}
 use Rattle.display.proofs.PutLaws.{put-done}
 use Rattle.display.proofs.Unique.{writeCall, selectCall, toggleCall, startCall, putCall, fillCall, paintCall, frameCall}
 use Rattle.display.proofs.Unique.{write-tie, select-tie, toggle-tie, start-tie, put-tie, fill-tie, paint-tie, frame-tie}
+use Rattle.display.proofs.Unique.{putRunCall, writeRunCall, put-run-tie, write-run-tie}
 use Rattle.host.proofs.Unique.{hostCall, host-tie}
 use Rattle.line.specs.Sizes.{mostPrinted}
 use Rattle.line.specs.Line.{zeros}
 use Rattle.lines.specs.Sizes.{outLen}
 use Rattle.laws.specs.Small.{grey, night, written, started, sizeless, selecting, blank, filled, white, clear, dim}
 use Rattle.laws.specs.Small.{bright, image, line, page, printed, replyWith, Paints, Frames, Hosts, Prints}
-use Rattle.laws.specs.Small.{Finishes, Feeds}
+use Rattle.laws.specs.Small.{oneWrite, Finishes, Feeds}
 use Rattle.laws.specs.Impostors.{TurnsDown, PrintsDown, untouched, andNot, stoppedStart, Rule, paintedBy}
 use Rattle.laws.specs.Impostors.{framedBy, printedBy, lowest, by256, numbered, groundLast, paintBy, frameBy}
 use Rattle.laws.specs.Impostors.{hostBy, lineBy, Breaks}
 use Rattle.laws.proofs.Small as small
+use Rattle.laws.proofs.Runs.{put-run-one, put-run-all, write-run-one, write-run-all}
 
 -- what differs by a number of it is not the same, as two lists are not that differ at a place
 apart : {A : Type 0} (f : A → ℕ) {x y : A} → (f x ≡ f y → ⊥) → x ≡ y → ⊥
@@ -45,6 +50,11 @@ differ k = apart (λ (l : List ℕ). getD l k 0)
 
 refused : {t u : Told} → u .answer ≡ done → TurnsDown (t .answer) → t ≡ u → ⊥
 refused accepted down e = down (ap (λ (r : Told). r .answer) e ∙ accepted)
+
+-- what it answers and leaves
+pub write-one : toldBy (writeRunOf fresh oneWrite) ≡ writeOf fresh 0 1
+unfolding littleAt
+write-one = write-run-one fresh oneWrite refl
 
 module _ (t : Told) (down : TurnsDown (t .answer)) where
   pub write-down : Meets writeCall (fresh, 0, 1) t → ⊥
@@ -61,6 +71,16 @@ module _ (t : Told) (down : TurnsDown (t .answer)) where
 
   pub put-down : (tables : List ℕ) → Meets putCall (selecting, blank, 7) (t, tables) → ⊥
   put-down tables m = refused small.put-accepted down (pair-is .1 (tied-meets put-tie m) .0)
+
+  -- with any count
+  pub put-run-down : (n : ℕ) (tables : List ℕ)
+      → Meets putRunCall (selecting, blank, 7 ∷ []) (ran (t .state) (t .answer) n, tables) → ⊥
+  put-run-down n tables m =
+      refused small.put-accepted down
+      (ap toldBy (pair-is .1 (tied-meets put-run-tie m) .0) ∙ put-run-one selecting blank 7 .0)
+
+  pub write-run-down : (n : ℕ) → Meets writeRunCall (fresh, oneWrite) (ran (t .state) (t .answer) n) → ⊥
+  write-run-down n m = refused small.write-accepted down (ap toldBy (tied-meets write-run-tie m) ∙ write-one)
 
   pub fill-down : (out : List ℕ) → Meets fillCall (started grey, filled) (t, out) → ⊥
   fill-down out m = refused (small.fill-accepted .0) down (pair-is .1 (tied-meets fill-tie m) .0)
@@ -163,6 +183,34 @@ put-untouched =
           ∙ getD-set-same blank 1856 7 0 (rw small.blank-long (omega arith)) in
           omega (arith, small.blank-byte 1856 (omega arith)),
     )
+
+-- with any count
+pub put-run-untouched : (n : ℕ) (tables : List ℕ)
+    → Meets putRunCall (selecting, blank, 7 ∷ []) (ran selecting done n, tables) → ⊥
+put-run-untouched n tables m =
+    apart (λ (t : Told). t .state .selection .place) (λ (z : 0 ≡ 1). omega arith)
+    (ap toldBy (pair-is .1 (tied-meets put-run-tie m) .0) ∙ put-run-one selecting blank 7 .0
+    ∙ sym (put-done selecting blank 7 small.put-passes .0))
+
+pub write-run-untouched : (n : ℕ) → Meets writeRunCall (fresh, oneWrite) (ran fresh done n) → ⊥
+write-run-untouched n m =
+    apart (λ (t : Told). getD (t .state .pending) 0 0) (λ (z : 0 ≡ 1). omega arith)
+    (ap toldBy (tied-meets write-run-tie m) ∙ write-one)
+
+-- ---- "the place of the first refused item or the length of the run": one that counts anything but the one item
+
+module _ (r : Ran) (miscounted : r .done ≡ 1 → ⊥) where
+  pub put-run-miscounted : (tables : List ℕ) → Meets putRunCall (selecting, blank, 7 ∷ []) (r, tables) → ⊥
+  put-run-miscounted tables m =
+      let e = pair-is .1 (tied-meets put-run-tie m) .0 in
+      let a = ap (λ (t : Told). t .answer) (put-run-one selecting blank 7 .0) ∙ small.put-accepted in
+      miscounted (ap (λ (x : Ran). x .done) e ∙ put-run-all selecting blank (7 ∷ []) a)
+
+  pub write-run-miscounted : Meets writeRunCall (fresh, oneWrite) r → ⊥
+  write-run-miscounted m =
+      let e = tied-meets write-run-tie m in
+      let a = ap (λ (t : Told). t .answer) write-one ∙ small.write-accepted in
+      miscounted (ap (λ (x : Ran). x .done) e ∙ write-run-all fresh oneWrite a)
 
 pub fill-untouched : (t : Told) → Meets fillCall (started night, filled) (t, filled) → ⊥
 fill-untouched t m = differ 0 (λ (z : 100 ≡ 0). omega arith) (pair-is .1 (tied-meets fill-tie m) .1 ∙ small.night-fill)

@@ -82,6 +82,10 @@ sizeless = writeOf fresh 0 4 .state
 abbrev pub selecting : Display
 selecting = selectOf fresh 1 .state
 
+-- a run of one write: 1 to register 0
+abbrev pub oneWrite : List ℕ
+oneWrite = 0 ∷ 1 ∷ 0 ∷ 0 ∷ 0 ∷ []
+
 -- ---- buffers
 
 -- tables of zeros, as the sheet program makes them

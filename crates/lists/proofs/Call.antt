@@ -1,5 +1,5 @@
 -- Laws of contracts that are tied to a definition. Assumes nothing.
-use mathlib.Core.Path.{_≡_, sym, ap, ap₂, _∙_}
+use mathlib.Core.Path.{_≡_, refl, sym, ap, ap₂, _∙_}
 use mathlib.Core.Logic.{_↔_}
 use Rattle.lists.specs.Call.{Call, Tied, Meets, OneOutcome}
 use Rattle.lists.proofs.Choice.{meet}
@@ -23,6 +23,17 @@ pub triple-is : {A B C : Type 0} {a x : A} {b y : B} {c z : C}
 triple-is {A} {B} {C} {a} {x} {b} {y} {c} {z} = (
   λ p. ap (λ (u : A). (u, b, c)) (p .0) ∙ ap (λ (v : B). (x, v, c)) (p .1 .0) ∙ ap (λ (w : C). (x, y, w)) (p .1 .1),
   λ q. (ap (λ (t : A × B × C). t .0) q, (ap (λ (t : A × B × C). t .1) q, ap (λ (t : A × B × C). t .2) q)),
+)
+
+-- of four
+pub quadruple-is : {A B C D : Type 0} {a x : A} {b y : B} {c z : C} {d w : D}
+    → ((a ≡ x) × ((b ≡ y) × ((c ≡ z) × (d ≡ w)))) ↔ (_≡_ {A = A × B × C × D} (a, b, c, d) (x, y, z, w))
+quadruple-is {A} {B} {C} {D} {a} {x} {b} {y} {c} {z} {d} {w} = (
+  λ p. rw (p .0, p .1 .0, p .1 .1 .0, p .1 .1 .1) refl,
+  λ q. (
+    ap (λ (t : A × B × C × D). t .0) q,
+    (ap (λ (t : A × B × C × D). t .1) q, (ap (λ (t : A × B × C × D). t .2) q, ap (λ (t : A × B × C × D). t .3) q)),
+  ),
 )
 
 -- ---- from the tie

@@ -65,6 +65,13 @@ const KIND_LEN: [u32; 4] = [
     FONT_LEN as u32,
 ];
 
+// The table that puts go to, and the place of the next byte in it. Until one is made nothing is selected.
+pub struct Selection {
+    pub made: bool,
+    pub number: u32,
+    pub place: u32,
+}
+
 // The controller, the kind and the bank that a selection names.
 pub fn controller_of(selection: u32) -> u32
     ensures { λ r. ⌜ r ≡ controllerOf selection ⌝ }

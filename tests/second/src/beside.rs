@@ -2,7 +2,8 @@
 //! document 01.
 
 use crate::cases::HostCase;
-use crate::doors::{begin_record, Step, Told, OUTPUT, STATE};
+use crate::doors::{begin_record, Door, Stage, Step, Told, COUNT, OUTPUT, STATE};
+use std::collections::BTreeMap;
 use std::env;
 use std::ffi::OsString;
 use std::io::{self, Read, Write};
@@ -25,6 +26,31 @@ pub fn seeds(variable: &str, a_case: usize, cases: u64) -> RangeInclusive<u64> {
     }
     let cases = asked.map_or(cases, |parts| parts.div_ceil(a_case as u64));
     0..=cases - 1
+}
+
+/// A law holds for the case of a seed, which is counted by these names and numbers, or it is told
+/// where it fails.
+pub type Tried = Result<Vec<(String, usize)>, String>;
+
+pub fn all_seeds(cases: u64) -> RangeInclusive<u64> {
+    seed().map_or(0..=cases - 1, |seed| seed..=seed)
+}
+
+/// Tries the cases of all seeds and asks that each name has come as often as it says.
+pub fn try_all(cases: u64, least: &[(&str, usize)], mut law: impl FnMut(u64) -> Tried) {
+    let mut counts: BTreeMap<String, usize> = BTreeMap::new();
+    for seed in all_seeds(cases) {
+        let names = law(seed).unwrap_or_else(|told| panic!("seed {seed}: {told}"));
+        names.into_iter().for_each(|(name, count)| *counts.entry(name).or_default() += count);
+    }
+    println!("{counts:#?}");
+    if seed().is_none() {
+        for &(name, least) in least {
+            let came = counts.get(name).copied().unwrap_or(0);
+            assert!(came >= least, "{name} came {came} times of {least}");
+        }
+        assert_eq!(counts.len(), least.len(), "a name is not asked for");
+    }
 }
 
 /// A number from outside. What is none must not pass for "not set".
@@ -171,12 +197,14 @@ impl Doors {
         let Step::Call { lent, .. } = step else { return Ok(None) };
         let [answer, touched] = [self.number()?, self.number()?];
         let state = self.read(lent[STATE].length)?;
-        let mut changes = Vec::new();
-        for _ in 0..self.number()? {
-            changes.push((self.number()?, self.number()? as u8));
-        }
+        let changed = self.number()? as usize;
+        // A place and a byte, each a number.
+        let change =
+            |pair: &[u8]| (u32::from_le_bytes(pair[..4].try_into().expect("four")), pair[4]);
+        let changes = self.read(8 * changed)?.chunks(8).map(change).collect();
         let out = self.read(lent[OUTPUT].length)?;
-        Ok(Some(Told { answer, is_touched: touched != 0, state, changes, out }))
+        let count = self.read(lent[COUNT].length)?;
+        Ok(Some(Told { answer, is_touched: touched != 0, state, changes, out, count }))
     }
 
     fn write(&mut self, bytes: &[u8]) -> io::Result<()> {
@@ -192,6 +220,25 @@ impl Doors {
 
     fn number(&mut self) -> io::Result<u32> {
         Ok(u32::from_le_bytes(self.read(4)?.try_into().expect("four")))
+    }
+}
+
+/// What calls tell of a row, one after another; fewer than there are where they end the program.
+pub type Calls<'a> = &'a dyn Fn(&[Step]) -> Vec<Told>;
+
+/// Our calls with a fault: some of what a call tells is changed afterwards, and stays so.
+pub fn with_fault(fault: impl Fn(Door, &mut Stage, &mut Told)) -> impl Fn(&[Step]) -> Vec<Told> {
+    move |steps: &[Step]| {
+        let mut stage = Stage::new();
+        let mut all = Vec::new();
+        for step in steps {
+            let told = stage.play(step);
+            if let (Some(mut told), Step::Call { door, .. }) = (told, step) {
+                fault(*door, &mut stage, &mut told);
+                all.push(told);
+            }
+        }
+        all
     }
 }
 

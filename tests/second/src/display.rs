@@ -1,10 +1,13 @@
 //! 01 "What the display is made of", "Registers", "Tables" and "Answers by number": the state and
-//! its calls. Every call answers its number.
+//! its calls, and 02 K1: runs of two of them. Every call answers its number.
 
 use crate::answers::*;
 use crate::paint;
 use crate::tables::{Bank, TABLES_LEN};
 use crate::words::{Words, WORDS};
+
+/// "A write is five bytes", in a run.
+pub const ITEM_LEN: usize = 5;
 
 /// "The state holds pending registers, active registers, frame number (32 bits), error word (32
 /// bits), and a table selection with its place."
@@ -133,6 +136,18 @@ impl Display {
         DONE
     }
 
+    /// "one call that puts a whole run of bytes"
+    pub fn put_run(&mut self, tables: &mut [u8], run: &[u8]) -> (u32, usize) {
+        in_order(run.iter().map(|&byte| self.put(tables, byte)))
+    }
+
+    /// "one that makes a run of register writes .. register then little-endian value; fewer left at
+    /// the end are no item."
+    pub fn write_run(&mut self, run: &[u8]) -> (u32, usize) {
+        let value = |item: &[u8]| u32::from_le_bytes(item[1..].try_into().expect("four bytes"));
+        in_order(run.chunks_exact(ITEM_LEN).map(|item| self.write(item[0].into(), value(item))))
+    }
+
     /// "Fill writes the background to every pixel.", whether or not the display is on.
     pub fn fill(&mut self, out: &mut [u8]) -> u32 {
         if self.active.output_len() == 0 {
@@ -189,4 +204,18 @@ impl Display {
         }
         answer
     }
+}
+
+/// Makes the calls of a run, each when its answer is asked for: "the single calls made in order,
+/// stopping after the first refusal .. It answers the refusal, or 0, and how many items were done
+/// before it".
+fn in_order(answers: impl Iterator<Item = u32>) -> (u32, usize) {
+    let mut done = 0;
+    for answer in answers {
+        if answer != DONE {
+            return (answer, done);
+        }
+        done += 1;
+    }
+    (DONE, done)
 }

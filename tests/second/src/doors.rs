@@ -1,4 +1,4 @@
-//! The thirteen calls of the display from C, each on lent bytes, and rows of such calls: what the
+//! The fifteen calls of the display from C, each on lent bytes, and rows of such calls: what the
 //! owner of the buffers stores in them, what is lent to each call, and what a call tells.
 
 use crate::answers::{DONE, WRONG_STATE};
@@ -16,6 +16,8 @@ pub enum Door {
     Fill,
     Paint,
     Frame,
+    PutRun,
+    WriteRun,
     ErrorWord,
     FrameNumber,
     OutputWidth,
@@ -27,10 +29,21 @@ pub const STATE: usize = 0;
 pub const TABLES: usize = 1;
 pub const PICTURES: usize = 2;
 pub const OUTPUT: usize = 3;
-pub const BUFFERS: usize = 4;
+pub const RUN: usize = 4;
+/// Where a run's count is written, a `size_t`.
+pub const COUNT: usize = 5;
+pub const BUFFERS: usize = 6;
+
+pub const COUNT_LEN: usize = 8;
+
+/// How far past an address that sixteen divides a buffer may begin: anywhere, but a `size_t` is
+/// aligned.
+pub fn places(buffer: usize) -> Vec<usize> {
+    (0..16).step_by(if buffer == COUNT { COUNT_LEN } else { 1 }).collect()
+}
 
 impl Door {
-    pub const ALL: [Door; 13] = [
+    pub const ALL: [Door; 15] = [
         Door::New,
         Door::Write,
         Door::Select,
@@ -40,6 +53,8 @@ impl Door {
         Door::Fill,
         Door::Paint,
         Door::Frame,
+        Door::PutRun,
+        Door::WriteRun,
         Door::ErrorWord,
         Door::FrameNumber,
         Door::OutputWidth,
@@ -54,10 +69,17 @@ impl Door {
     pub fn takes(self, buffer: usize) -> bool {
         match buffer {
             STATE => true,
-            TABLES => matches!(self, Door::Put | Door::Paint | Door::Frame),
+            TABLES => matches!(self, Door::Put | Door::PutRun | Door::Paint | Door::Frame),
             PICTURES => matches!(self, Door::Paint | Door::Frame),
-            _ => matches!(self, Door::Fill | Door::Paint | Door::Frame),
+            OUTPUT => matches!(self, Door::Fill | Door::Paint | Door::Frame),
+            _ => matches!(self, Door::PutRun | Door::WriteRun),
         }
+    }
+
+    /// So many bytes of each buffer that it takes, each from where sixteen divides.
+    pub fn lent(self, lengths: [usize; BUFFERS]) -> [Lent; BUFFERS] {
+        let length = |buffer: usize| if self.takes(buffer) { lengths[buffer] } else { 0 };
+        std::array::from_fn(|buffer| Lent { length: length(buffer), past: 0 })
     }
 }
 
@@ -67,13 +89,17 @@ pub struct LentBytes<'a> {
     pub tables: &'a mut [u8],
     pub pictures: &'a [u8],
     pub out: &'a mut [u8],
+    pub run: &'a [u8],
+    pub count: &'a mut [u8],
 }
 
 /// One call, with its one or two numbers: register and value, selection, bits, byte, or the ends of
-/// a band. "A state of another length: answer 23, everything unchanged; the reads give 0 then."
+/// a band. "A state of another length: answer 23, everything unchanged; the reads give 0 then." A
+/// count is written by every call that is lent its place, with 23 as 0.
 pub fn call(door: Door, a: u32, b: u32, lent: LentBytes) -> u32 {
-    let LentBytes { state, tables, pictures, out } = lent;
+    let LentBytes { state, tables, pictures, out, run, count } = lent;
     let Some(mut display) = read_state(state) else {
+        count.fill(0);
         return if door.is_read() { 0 } else { WRONG_STATE };
     };
     let answer = match door {
@@ -89,12 +115,20 @@ pub fn call(door: Door, a: u32, b: u32, lent: LentBytes) -> u32 {
         Door::Fill => display.fill(out),
         Door::Paint => display.paint(a, b, tables, pictures, out),
         Door::Frame => display.frame(tables, pictures, out),
+        Door::PutRun => counted(display.put_run(tables, run), count),
+        Door::WriteRun => counted(display.write_run(run), count),
         Door::ErrorWord => return display.errors(),
         Door::FrameNumber => return display.frame_number(),
         Door::OutputWidth => return display.width() as u32,
         Door::OutputHeight => return display.height() as u32,
     };
     state.copy_from_slice(&state_bytes(&display));
+    answer
+}
+
+/// Writes the count of a run and hands on its answer.
+fn counted((answer, done): (u32, usize), count: &mut [u8]) -> u32 {
+    count.copy_from_slice(&(done as u64).to_le_bytes());
     answer
 }
 
@@ -148,7 +182,7 @@ pub fn begin_record() -> Vec<u8> {
     record([BEGIN, 0, 0, 0], &Default::default())
 }
 
-/// Twelve little-endian numbers.
+/// Sixteen little-endian numbers.
 fn record(numbers: [u32; 4], lent: &[Lent; BUFFERS]) -> Vec<u8> {
     let lengths = lent.iter().map(|lent| lent.length as u32);
     let past = lent.iter().map(|lent| lent.past as u32);
@@ -167,6 +201,15 @@ pub struct Told {
     pub changes: Vec<(u32, u8)>,
     /// All bytes that are lent as the output.
     pub out: Vec<u8>,
+    /// All bytes that are lent for the count.
+    pub count: Vec<u8>,
+}
+
+impl Told {
+    /// The count of a run, and 0 of another call.
+    pub fn done(&self) -> u64 {
+        self.count.iter().rev().fold(0, |n, &byte| n << 8 | u64::from(byte))
+    }
 }
 
 /// The buffers with all that their owner has.
@@ -198,15 +241,18 @@ impl Stage {
     }
 
     fn call(&mut self, door: Door, a: u32, b: u32, lent: &[Lent; BUFFERS]) -> Told {
-        let [state, tables, pictures, out] = &mut self.rooms;
+        let [state, tables, pictures, out, run, count] = &mut self.rooms;
         let state = &mut state[..lent[STATE].length];
         let tables = &mut tables[..lent[TABLES].length];
         let pictures = &pictures[..lent[PICTURES].length];
         let out = &mut out[..lent[OUTPUT].length];
+        let run = &run[..lent[RUN].length];
+        let count = &mut count[..lent[COUNT].length];
         let before = tables.to_vec();
-        let answer = call(door, a, b, LentBytes { state, tables, pictures, out });
+        let answer = call(door, a, b, LentBytes { state, tables, pictures, out, run, count });
         let changed = (0..tables.len()).filter(|&at| tables[at] != before[at]);
         let changes = changed.map(|at| (at as u32, tables[at])).collect();
-        Told { answer, is_touched: false, state: state.to_vec(), changes, out: out.to_vec() }
+        let [state, out, count] = [&*state, &*out, &*count].map(<[u8]>::to_vec);
+        Told { answer, is_touched: false, state, changes, out, count }
     }
 }

@@ -1,6 +1,6 @@
-//! A second on-screen display, written from document 01 alone and sharing no code with the first.
-//! It is plain and slow: every pixel is worked out by itself. "01" in a header names a section of
-//! that document.
+//! A second on-screen display, written from documents 01 and 02 alone and sharing no code with the
+//! first. It is plain and slow: every pixel is worked out by itself. "01" in a header names a
+//! section of that document, "02" a request of the other.
 
 pub mod answers;
 pub mod bench;

@@ -15,8 +15,9 @@ pub const LEND: u8 = b'L';
 pub const FILL_TABLES: u8 = b'K';
 pub const FILL_PICTURES: u8 = b'I';
 pub const FILL_OUT: u8 = b'D';
-/// The little-endian word b at byte a of the tables.
+/// The little-endian word b at byte a of the tables or the pictures.
 pub const TABLE_WORD: u8 = b'Q';
+pub const PICTURE_WORD: u8 = b'J';
 /// Write b to register a.
 pub const WRITE: u8 = b'W';
 pub const SELECT: u8 = b'S';
@@ -24,6 +25,9 @@ pub const TOGGLE: u8 = b'T';
 pub const START: u8 = b'G';
 /// Put byte a, and then b times more, up to 1,023.
 pub const PUT: u8 = b'P';
+/// Runs of the b bytes of the pictures from a on, or of what there is of them.
+pub const PUT_RUN: u8 = b'U';
+pub const WRITE_RUN: u8 = b'X';
 pub const FILL: u8 = b'F';
 /// Paint the band a..b.
 pub const BAND: u8 = b'B';
@@ -37,7 +41,8 @@ pub const BLENDS: u8 = b'M';
 pub const FADES: u8 = b'E';
 
 /// The records that call the display.
-pub const CALLS: [u8; 8] = [WRITE, SELECT, TOGGLE, START, PUT, FILL, BAND, FRAME];
+pub const CALLS: [u8; 10] =
+    [WRITE, SELECT, TOGGLE, START, PUT, PUT_RUN, WRITE_RUN, FILL, BAND, FRAME];
 
 /// The buffers are longer than any right length, so that a call can be lent too much.
 const TABLES_ROOM: usize = TABLES_LEN + 16;
@@ -54,6 +59,12 @@ pub struct Call {
 const RECORD_LEN: usize = 20;
 
 impl Call {
+    /// The bytes that a run is made of.
+    pub fn run(self, pictures: &[u8]) -> &[u8] {
+        let rest = pictures.get(self.a as usize..).unwrap_or(&[]);
+        &rest[..rest.len().min(self.b as usize)]
+    }
+
     /// Whether it writes to the output where it is not refused.
     pub fn paints(self) -> bool {
         [FILL, BAND, FRAME].contains(&self.letter)
@@ -123,8 +134,19 @@ impl Stage {
         }
     }
 
-    /// Does what one record asks and answers the call's number, 0 where it calls nothing.
-    pub fn play(&mut self, call: Call) -> u32 {
+    /// Does what one record asks and answers the call's number, 0 where it calls nothing, and the
+    /// count of a run, 0 where it makes none.
+    pub fn play(&mut self, call: Call) -> (u32, usize) {
+        let Stage { display, tables, pictures, lent, .. } = self;
+        match call.letter {
+            PUT_RUN => display.put_run(&mut tables[..lent.tables], call.run(pictures)),
+            WRITE_RUN => display.write_run(call.run(pictures)),
+            _ => (self.play_one(call), 0),
+        }
+    }
+
+    /// The records that make no run.
+    fn play_one(&mut self, call: Call) -> u32 {
         let Call { letter, a, b } = call;
         let Stage { display, tables, pictures, out, lent } = self;
         let lent_tables = &mut tables[..lent.tables];
@@ -147,13 +169,8 @@ impl Stage {
             FILL_TABLES => pattern(tables, a, b, false),
             FILL_PICTURES => pattern(pictures, a, b, true),
             FILL_OUT => pattern(out, a, b, false),
-            TABLE_WORD => {
-                for (place, byte) in (u64::from(a)..).zip(b.to_le_bytes()) {
-                    if place < TABLES_ROOM as u64 {
-                        tables[place as usize] = byte;
-                    }
-                }
-            }
+            TABLE_WORD => store(tables, a, b),
+            PICTURE_WORD => store(pictures, a, b),
             _ => {}
         }
         DONE
@@ -168,21 +185,21 @@ impl Stage {
         }
     }
 
-    /// The line that a record prints: its letter, the answer, what the state tells, and the
-    /// checksums of all tables and all output. The last three letters print what they are for.
+    /// The line that a record prints: its letter, the answer, the count, what the state tells, and
+    /// the checksums of all tables and all output. The last three letters print what they are for.
     fn line(&mut self, call: Call) -> Vec<u8> {
         let columns = match call.letter {
             VIEW => self.view(call.a),
             BLENDS => format!(" {:02x}{}", call.a % 256, columns(&blends(call.a % 256))),
             FADES => format!(" {:04x}{}", call.a % 65_536, columns(&fades(call.a % 65_536))),
             _ => {
-                let answer = self.play(call);
+                let (answer, done) = self.play(call);
                 let Stage { display, tables, out, .. } = self;
                 let told = [display.errors(), display.frame_number()];
                 let (width, height) = (display.width(), display.height());
                 let sums = [checksum(tables), checksum(out)];
                 let (told, sums) = (columns(&told), columns(&sums));
-                format!(" {answer:02x}{told} {width:03x} {height:03x}{sums}")
+                format!(" {answer:02x} {done:08x}{told} {width:03x} {height:03x}{sums}")
             }
         };
         [&[call.letter][..], columns.as_bytes(), b"\n"].concat()
@@ -196,6 +213,12 @@ impl Stage {
 
 fn columns(numbers: &[u32]) -> String {
     numbers.iter().map(|number| format!(" {number:08x}")).collect()
+}
+
+/// As much of a word as lies in the buffer.
+fn store(buffer: &mut [u8], at: u32, word: u32) {
+    let places = buffer.iter_mut().skip(at as usize);
+    places.zip(word.to_le_bytes()).for_each(|(place, byte)| *place = byte);
 }
 
 /// Each byte is the highest of a number that goes up by a step from byte to byte. In pixels each

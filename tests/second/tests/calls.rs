@@ -105,17 +105,27 @@ fn the_program_prints_the_edges() {
     }
 }
 
-/// The comparison itself, on a program that is known to be wrong: for 10 it answers 9.
-#[test]
-fn an_impostor_is_caught_and_its_script_made_small() {
+/// Compares with a program that prints other text where ours begins a line so, and asks that this is
+/// seen and that the script is made as small as that.
+fn catch(ours: &str, theirs: &str, records: usize) {
     let impostor = |script: &[u8]| {
         let printed = String::from_utf8(print_script(script)).expect("letters and digits");
-        printed.replace("\nG 0a", "\nG 09").into_bytes()
+        printed.replace(&format!("\n{ours}"), &format!("\n{theirs}")).into_bytes()
     };
     let caught = (0..5)
         .find_map(|seed| compare("a script", &gen_calls(seed, RECORDS_A_SCRIPT), &impostor).err());
     let told = caught.expect("the impostor goes unseen");
-    assert!(told.contains("we print  G 0a") && told.contains("it prints G 09"), "{told}");
-    // The update bit, the screen, a layer and its size, a start.
-    assert!(told.contains("a small script that differs, of 5 records"), "{told}");
+    assert!(told.contains(&format!("we print  {ours}")), "{told}");
+    assert!(told.contains(&format!("it prints {theirs}")), "{told}");
+    assert!(told.contains(&format!("differs, of {records} records")), "{told}");
+}
+
+/// The comparison itself, on programs that are known to be wrong: for 10 one answers 9, and one
+/// counts a refused write as done.
+#[test]
+fn impostors_are_caught_and_their_scripts_made_small() {
+    // The update bit, the screen, a layer, its place and its size, a start.
+    catch("G 0a", "G 09", 6);
+    // A word among the pictures, the run.
+    catch("X 01 00000001", "X 01 00000002", 2);
 }

@@ -8,7 +8,7 @@
 //!   SPOONWING_SEED      compares the row of this one seed only, aloud
 
 use second::answers::*;
-use second::beside::{fewer, seed, seeds, Doors};
+use second::beside::{fewer, seed, seeds, with_fault, Calls, Doors};
 use second::cases::{gen_host, gen_row, HostCase, ROWS};
 use second::doors::*;
 use second::host::{host_frame, image_words};
@@ -16,9 +16,6 @@ use second::state::*;
 use second::tables::{BANK_LEN, CONTROLLER_LEN, TABLES_LEN};
 use std::cell::RefCell;
 use std::collections::BTreeMap;
-
-/// What calls tell of a row, one after another; fewer than there are where they end the program.
-type Calls<'a> = &'a dyn Fn(&[Step]) -> Vec<Told>;
 
 /// Makes the calls of a row with both and answers their numbers, or says where they part.
 fn compare(calls: Calls, steps: &[Step]) -> Result<Vec<u32>, String> {
@@ -48,9 +45,11 @@ fn difference(ours: &Told, theirs: &Told) -> Option<String> {
         let (theirs, ours) = (&theirs.changes, &ours.changes);
         return Some(format!("of the tables it changes {theirs:?}, and we {ours:?}"));
     }
-    for (name, ours_bytes, theirs_bytes) in
-        [("state", &ours.state, &theirs.state), ("output", &ours.out, &theirs.out)]
-    {
+    for (name, ours_bytes, theirs_bytes) in [
+        ("state", &ours.state, &theirs.state),
+        ("output", &ours.out, &theirs.out),
+        ("count", &ours.count, &theirs.count),
+    ] {
         let other = (0..ours_bytes.len()).find(|&at| ours_bytes[at] != theirs_bytes[at]);
         if let Some(at) = other {
             let (theirs, ours) = (theirs_bytes[at], ours_bytes[at]);
@@ -116,7 +115,7 @@ fn shown(step: &Step) -> String {
             let word = |chunk: &[u8]| chunk.iter().rev().fold(0, |n, &b| n << 8 | u32::from(b));
             let words = bytes.chunks(4).map(word).enumerate().filter(|&(_, word)| word != 0);
             let words: String = words.map(|(i, word)| format!(" {}: {word:08X}", 4 * i)).collect();
-            let name = ["state", "tables", "pictures", "output"][*buffer];
+            let name = ["state", "tables", "pictures", "output", "run", "count"][*buffer];
             format!("{name} of {} bytes:{words}", bytes.len())
         }
     }
@@ -139,8 +138,9 @@ fn the_calls_answer_the_generated_rows() {
     println!("rows by their calls, from so many on: {counts:?}");
 }
 
-/// A screen of one pixel, shown, with a bank selected that can be put to.
-fn one_pixel() -> Step {
+/// A screen of one pixel, shown, with a bank selected that can be put to; and a run of bytes that
+/// are two writes.
+fn one_pixel() -> [Step; 2] {
     let mut state = vec![0; STATE_LEN];
     for (register, word) in [(0, 0b101_u32), (1, 0x0001_0001)] {
         for at in [PENDING_AT, ACTIVE_AT] {
@@ -149,52 +149,58 @@ fn one_pixel() -> Step {
     }
     state[SELECTED_AT] = 7;
     state[SELECTION_AT] = 1;
-    Step::Store { buffer: STATE, bytes: state }
+    let run = vec![2, 1, 2, 3, 4, 51, 5, 6, 7, 8];
+    [(STATE, state), (RUN, run)].map(|(buffer, bytes)| Step::Store { buffer, bytes })
 }
 
 /// What a call on that state needs.
 fn lent_to(door: Door) -> [Lent; BUFFERS] {
-    let lengths = [STATE_LEN, TABLES_LEN, 0, 4];
-    let length = |buffer: usize| if door.takes(buffer) { lengths[buffer] } else { 0 };
-    [STATE, TABLES, PICTURES, OUTPUT].map(|buffer| Lent { length: length(buffer), past: 0 })
+    door.lent([STATE_LEN, TABLES_LEN, 0, 4, 10, COUNT_LEN])
 }
 
-/// A host that has no bytes to lend may pass NULL: for any of the buffers of any call, where that
-/// is right and where it is refused. Whoever reads or writes there is ended by the system.
+/// A host that has no bytes to lend may pass NULL: for any of the buffers of any call but a count's
+/// place, where that is right and where it is refused. Whoever reads or writes there is ended by
+/// the system.
 #[test]
 fn the_calls_take_null_for_no_bytes() {
     let doors = RefCell::new(Doors::start());
     let calls = |steps: &[Step]| doors.borrow_mut().row(steps);
     let mut counts = BTreeMap::new();
-    for (door, emptied) in Door::ALL.into_iter().flat_map(|door| (0..16).map(move |i| (door, i))) {
+    let ways = 1 << COUNT;
+    for (door, emptied) in Door::ALL.into_iter().flat_map(|door| (0..ways).map(move |i| (door, i)))
+    {
         let mut lent = lent_to(door);
-        for buffer in (0..BUFFERS).filter(|buffer| emptied >> buffer & 1 == 1) {
+        for buffer in (0..COUNT).filter(|buffer| emptied >> buffer & 1 == 1) {
             lent[buffer].length = 0;
         }
-        let steps = vec![one_pixel(), Step::Call { door, a: 0, b: 8, lent, null: true }];
-        let answers = compare_row(&calls, &format!("with NULL for {emptied:04b}"), steps);
+        let mut steps = one_pixel().to_vec();
+        steps.push(Step::Call { door, a: 0, b: 8, lent, null: true });
+        let answers = compare_row(&calls, &format!("with NULL for {emptied:05b}"), steps);
         let answers = answers.unwrap_or_else(|told| panic!("{told}"));
         if !door.is_read() {
             *counts.entry(answers[0]).or_insert(0) += 1;
         }
     }
-    // Half of the 9 times 16 have no state. Of the other half, no output is refused in 4 fills of 8
-    // and in 4 paintings of each kind, then no tables in 2 of each kind and in 4 puts.
-    let expected = [(DONE, 52), (WRONG_TABLES, 8), (WRONG_OUTPUT, 12), (WRONG_STATE, 72)];
+    // Half of the 11 times 32 have no state. Of the other half, no output is refused in 8 fills of
+    // 16 and in 8 paintings of each kind, then no tables in 4 of each kind, in 8 puts and in the 4
+    // of 8 runs of puts that have bytes.
+    let expected = [(DONE, 132), (WRONG_TABLES, 20), (WRONG_OUTPUT, 24), (WRONG_STATE, 176)];
     assert_eq!(counts, BTreeMap::from(expected));
 }
 
-/// Each buffer of each call begins at each place modulo 16.
+/// Each buffer of each call begins at each place modulo 16 where it may begin.
 #[test]
 fn the_calls_take_every_alignment() {
     let doors = RefCell::new(Doors::start());
     let calls = |steps: &[Step]| doors.borrow_mut().row(steps);
     for door in Door::ALL {
         let mut steps = Vec::new();
-        for (buffer, past) in (0..BUFFERS).flat_map(|buffer| (0..16).map(move |i| (buffer, i))) {
+        let ways = |buffer| places(buffer).into_iter().map(move |past| (buffer, past));
+        for (buffer, past) in (0..BUFFERS).flat_map(ways) {
             let mut lent = lent_to(door);
             lent[buffer].past = past;
-            steps.extend([one_pixel(), Step::Call { door, a: 0, b: 5, lent, null: false }]);
+            steps.extend(one_pixel());
+            steps.push(Step::Call { door, a: 0, b: 5, lent, null: false });
         }
         let answers = compare_row(&calls, "alignments", steps);
         let answers = answers.unwrap_or_else(|told| panic!("{told}"));
@@ -211,7 +217,8 @@ fn frame_of(calls: Calls, case: &HostCase, (width, height): (i64, i64)) -> (Vec<
     state.resize(STATE_LEN, 0);
     let size = (width | height << 16) as u32;
     state[ACTIVE_AT + 4..ACTIVE_AT + 8].copy_from_slice(&size.to_le_bytes());
-    let lengths = [STATE_LEN, TABLES_LEN, case.pictures.len(), 4 * (width * height) as usize];
+    let output = 4 * (width * height) as usize;
+    let lengths = [STATE_LEN, TABLES_LEN, case.pictures.len(), output, 0, 0];
     let lent = lengths.map(|length| Lent { length, past: 0 });
     let mut steps: Vec<Step> =
         [(STATE, &state), (TABLES, &case.tables), (PICTURES, &case.pictures)]
@@ -250,22 +257,6 @@ fn a_cut_screen_has_a_cut_frame() {
     assert!(frames > 200, "only {frames} frames are cut");
 }
 
-/// Our calls with a fault: some of what a call tells is changed afterwards, and stays so.
-fn with_fault(fault: impl Fn(Door, &mut Stage, &mut Told)) -> impl Fn(&[Step]) -> Vec<Told> {
-    move |steps: &[Step]| {
-        let mut stage = Stage::new();
-        let mut all = Vec::new();
-        for step in steps {
-            let told = stage.play(step);
-            if let (Some(mut told), Step::Call { door, .. }) = (told, step) {
-                fault(*door, &mut stage, &mut told);
-                all.push(told);
-            }
-        }
-        all
-    }
-}
-
 /// The comparison itself, on calls that are known to be wrong.
 #[test]
 fn impostors_are_caught_and_their_rows_made_small() {
@@ -279,14 +270,21 @@ fn impostors_are_caught_and_their_rows_made_small() {
         }
     });
     let spills = with_fault(|door, _, told| told.is_touched |= door == Door::Put);
+    // A refused item counts as done.
+    let late = with_fault(|door, _, told| {
+        if door == Door::WriteRun && told.answer == NO_REGISTER {
+            told.count[0] += 1;
+        }
+    });
     let ends = |steps: &[Step]| {
         let mut told = with_fault(|_, _, _| {})(steps);
         told.pop();
         told
     };
-    let impostors: [(Calls, &str, usize); 3] = [
-        (&stops, "byte 416 of the state", 3),
+    let impostors: [(Calls, &str, usize); 4] = [
+        (&stops, "byte 416 of the state", 4),
         (&spills, "beside a buffer, is touched", 1),
+        (&late, "byte 0 of the count", 2),
         (&ends, "the program ends", 1),
     ];
     for (impostor, said, most) in impostors {

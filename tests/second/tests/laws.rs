@@ -6,7 +6,7 @@ use second::cases::gen_calls;
 use second::display::Display;
 use second::fade::Fade;
 use second::paint::blend;
-use second::script::{Call, Stage, BAND, CALLS, FILL, FRAME, PUT};
+use second::script::{Call, Stage, BAND, CALLS, FILL, FRAME, PUT, PUT_RUN, WRITE_RUN};
 
 const SCRIPTS: u64 = 30;
 const CALLS_A_SCRIPT: usize = 1_500;
@@ -97,14 +97,19 @@ fn fade_is_another_formula() {
 }
 
 /// Plays scripts and shows each call with the stage before it, its answer and the stage after it. A
-/// record of several puts is several calls, and is not shown.
+/// record of several puts is several calls, and so is a run; these are not shown.
 fn each_call(mut look: impl FnMut(&Stage, Call, u32, &Stage)) {
     for seed in 0..SCRIPTS {
         let mut stage = Stage::new();
         for call in gen_calls(seed, CALLS_A_SCRIPT) {
             let before = stage.clone();
-            let answer = stage.play(call);
-            if CALLS.contains(&call.letter) && (call.letter != PUT || call.b == 0) {
+            let (answer, _) = stage.play(call);
+            let is_one = match call.letter {
+                PUT => call.b == 0,
+                PUT_RUN | WRITE_RUN => false,
+                letter => CALLS.contains(&letter),
+            };
+            if is_one {
                 look(&before, call, answer, &stage);
             }
         }
@@ -171,9 +176,9 @@ fn a_frame_is_a_fill_and_bands() {
         }
         for middle in 0..=8 {
             let mut parts = before.clone();
-            assert_eq!(parts.play(Call { letter: FILL, a: 0, b: 0 }), DONE);
+            assert_eq!(parts.play(Call { letter: FILL, a: 0, b: 0 }), (DONE, 0));
             for (a, b) in [(0, middle), (middle, middle), (middle, 8)] {
-                assert_eq!(parts.play(Call { letter: BAND, a, b }), DONE);
+                assert_eq!(parts.play(Call { letter: BAND, a, b }), (DONE, 0));
             }
             assert!(parts == *after, "split at {middle}");
         }

@@ -6,11 +6,11 @@
 //!   SPOONWING_FIGURES   what runs the figures program, ../../tools/run unless set
 //!   SPOONWING_SEED      tries the cases of this one seed only
 
-use second::beside::{figures, lines, seed, Host};
+use second::beside::{all_seeds, figures, lines, try_all, Host, Tried};
 use second::cases::{gen_exchange, gen_invisible, gen_opaque, gen_split, Inputs, Pair};
 use second::paint::{band, blend, fill};
 use second::script::*;
-use std::collections::{BTreeMap, BTreeSet};
+use std::collections::BTreeSet;
 use std::ops::RangeInclusive;
 
 const CASES: u64 = 1_500;
@@ -18,31 +18,6 @@ const SPLITS: u64 = 150;
 
 /// What paints a frame.
 type Painter<'a> = &'a mut dyn FnMut(&Inputs) -> Result<Vec<u8>, String>;
-
-/// A law holds for the case of a seed, which is counted by these names and numbers, or it is told
-/// where it fails.
-type Tried = Result<Vec<(String, usize)>, String>;
-
-fn all_seeds(cases: u64) -> RangeInclusive<u64> {
-    seed().map_or(0..=cases - 1, |seed| seed..=seed)
-}
-
-/// Tries the cases of all seeds and asks that each name has come as often as it says.
-fn try_all(cases: u64, least: &[(&str, usize)], mut law: impl FnMut(u64) -> Tried) {
-    let mut counts: BTreeMap<String, usize> = BTreeMap::new();
-    for seed in all_seeds(cases) {
-        let names = law(seed).unwrap_or_else(|told| panic!("seed {seed}: {told}"));
-        names.into_iter().for_each(|(name, count)| *counts.entry(name).or_default() += count);
-    }
-    println!("{counts:#?}");
-    if seed().is_none() {
-        for &(name, least) in least {
-            let came = counts.get(name).copied().unwrap_or(0);
-            assert!(came >= least, "{name} came {came} times of {least}");
-        }
-        assert_eq!(counts.len(), least.len(), "a name is not asked for");
-    }
-}
 
 /// Whether two frames are alike in the channels of those pixels.
 fn alike(one: &[u8], other: &[u8], pixels: impl IntoIterator<Item = usize>) -> Result<(), String> {
@@ -370,8 +345,8 @@ fn impostors_are_caught() {
     assert!((0..50).any(|seed| between(dim, seed).is_err()));
     let silent = |script: &[u8]| {
         let printed = String::from_utf8(print_script(script)).expect("letters and digits");
-        let line = |line: &str| match line.strip_prefix("B 00 ") {
-            Some(rest) => format!("B 00 00000000{}\n", &rest[8..]),
+        let line = |line: &str| match line.strip_prefix("B 00 00000000 ") {
+            Some(rest) => format!("B 00 00000000 00000000{}\n", &rest[8..]),
             None => format!("{line}\n"),
         };
         printed.lines().map(line).collect::<String>().into_bytes()

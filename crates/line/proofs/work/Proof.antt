@@ -4,7 +4,7 @@ use borrow.Author.Needs.{needs}
 use borrow.Author.Tests.{not-true, not-false}
 use mathlib.Core.Path.{refl, ap}
 use Rattle.steps.specs.declared.form.Parts.{Parts}
-use Rattle.steps.proofs.FormLaws.{picture-room}
+use Rattle.steps.proofs.FormLaws.{picture-room, writes-room}
 use Rattle.line.proofs.LineLaws.{reply-long, work-bad, work-is}
 use Rattle.line.proofs.work.Statement.{statement}
 use Rattle.line.proofs.work.Tie as tie
@@ -31,6 +31,7 @@ run-requires : tie.Need-run-requires
 run-requires c κs = (
   ap (λ (q : Parts). q .writes) (c .before .before .before .parts-of .ensures .0),
   c .before .before .before .parts-of .ensures .1,
+  writes-room _ _ (c .before .before .before .parts-of .ensures .0) (not-false _ (c .before .before .if1 .left)),
 )
 
 start-requires : tie.Need-start-requires

@@ -1,9 +1,9 @@
 //! Scripts of calls on one display (01 "Answers by number"), and the script that the gate runs.
 
 use crate::answers::DONE;
-use crate::cases::banks;
 use crate::cases::scene::{controller, nudge, scene, spoil, Room};
-use crate::display::Display;
+use crate::cases::{banks, runs};
+use crate::display::{Display, ITEM_LEN};
 use crate::rng::Rng;
 use crate::script::*;
 use crate::tables::{Bank, Kind, TABLES_LEN};
@@ -19,8 +19,8 @@ pub const RECORDS_A_SCRIPT: usize = 1_000;
 pub const EDGES: u64 = 12;
 
 /// The first seed whose calls are of every kind.
-const GATE_SEED: u64 = 72;
-const GATE_RECORDS: usize = 1_000;
+const GATE_SEED: u64 = 38;
+const GATE_RECORDS: usize = 1_500;
 
 /// A script of n records. It is made up of short runs, each going on from what the calls before it
 /// left.
@@ -31,7 +31,7 @@ pub fn gen_calls(seed: u64, n: usize) -> Vec<Call> {
         let nothing_active = author.stage.display.active().output_len() == 0;
         match author.rng.below(60) {
             _ if nothing_active && author.rng.percent(50) => author.set_up(),
-            0 => drop(author.call(NEW, 0, 0)),
+            0 => author.begin_anew(),
             1 => author.unknown(),
             2..=16 => author.load(),
             17..=31 => author.set_up(),
@@ -94,9 +94,18 @@ impl Author {
 
     fn call(&mut self, letter: u8, a: u32, b: u32) -> u32 {
         let call = Call { letter, a, b };
-        let answer = self.stage.play(call);
+        let (answer, _) = self.stage.play(call);
         self.calls.push(call);
         answer
+    }
+
+    /// A fresh display, to which some bytes are put at times before anything is selected.
+    fn begin_anew(&mut self) {
+        self.call(NEW, 0, 0);
+        if self.rng.percent(60) {
+            let bytes = self.rng.bytes(24);
+            self.run_puts(&bytes);
+        }
     }
 
     /// A letter that means nothing.
@@ -113,10 +122,10 @@ impl Author {
         self.call(letter, first, step);
     }
 
-    /// Lends the right length of a buffer, or now and then a wrong one near it.
-    fn lend(&mut self, buffer: u32, right: usize) {
+    /// Lends the right length of a buffer, or so many times in a hundred a wrong one near it.
+    fn lend(&mut self, buffer: u32, right: usize, wrong: i64) {
         let mut length = right;
-        if self.rng.percent(3) {
+        if self.rng.percent(wrong) {
             length = self.rng.pick(&[0, right.saturating_sub(1), right + 1, right + 4]);
         }
         let Lent { tables, pictures, out } = self.stage.lent;
@@ -135,11 +144,8 @@ impl Author {
             self.load();
             layers = self.stage.display.active().order().len();
         }
-        let (active, pending) = (self.stage.display.active(), self.stage.display.pending());
-        let (active, pending) = (active.clone(), pending.clone());
-        for register in (0..WORDS).filter(|&i| active.0[i] != pending.0[i]) {
-            self.call(WRITE, register as u32, active.0[register]);
-        }
+        let active = self.stage.display.active().clone();
+        self.write_missing(&active);
         self.fill_buffer(FILL_PICTURES);
         self.fill_buffer(FILL_OUT);
         let lengths = [TABLES_LEN as i64, active.pictures_len(), active.output_len()];
@@ -170,7 +176,7 @@ impl Author {
         }
     }
 
-    /// Changes tables: all of them, words of a bank, or by puts.
+    /// Changes tables: all of them, words of a bank, or by puts, single ones or runs.
     fn load(&mut self) {
         let kind = self.rng.pick(&[
             Kind::Instruction,
@@ -184,8 +190,18 @@ impl Author {
         let bytes = banks::bank(&mut self.rng, kind, layer.width.max(1), layer.height.max(1));
         match self.rng.below(10) {
             0 | 1 => self.fill_buffer(FILL_TABLES),
-            2..=5 => self.store_words(kind, g, &bytes),
-            _ => self.put_bytes(kind, g, &bytes),
+            2..=4 => self.store_words(kind, g, &bytes),
+            5 | 6 => {
+                self.select(kind, g);
+                self.put_bytes(kind, &bytes);
+            }
+            _ => {
+                for _ in 0..self.rng.range(1, 2) {
+                    self.select(kind, g);
+                    self.run_puts(&bytes);
+                    self.run_puts(&bytes);
+                }
+            }
         }
     }
 
@@ -208,17 +224,21 @@ impl Author {
         }
     }
 
-    /// Selects a bank, mostly an idle one, and puts some of it, at times past its end.
-    fn put_bytes(&mut self, kind: Kind, g: usize, bytes: &[u8]) {
+    /// Selects a bank, mostly an idle one, or leaves what is selected; at times what is no bank.
+    fn select(&mut self, kind: Kind, g: usize) {
         let active = self.stage.display.active().bank(kind, g);
         let bank = Bank { g, kind, b: if self.rng.percent(85) { 1 - active } else { active } };
         if !self.rng.percent(10) {
             let selection = bank.selection() + self.rng.pick(&[0, 0, 0, 0, 0, 0, 64, 0x1_0000]);
             self.call(SELECT, selection, 0);
         }
+    }
+
+    /// Puts some bytes, at times past the end of their kind.
+    fn put_bytes(&mut self, kind: Kind, bytes: &[u8]) {
         let mut refused = 0;
         for &byte in bytes.iter().take(1 + self.rng.below(24)) {
-            self.lend(0, TABLES_LEN);
+            self.lend(0, TABLES_LEN, 3);
             refused += u32::from(self.call(PUT, byte.into(), 0) != DONE);
             // A few more after a refusal show that it left the place; many would show no more.
             if refused > 2 {
@@ -233,9 +253,46 @@ impl Author {
         }
     }
 
+    /// Puts a run, and at times an empty one, which is never refused, or a byte that shows its place.
+    fn run_puts(&mut self, bytes: &[u8]) {
+        self.lend(0, TABLES_LEN, 10);
+        let run = runs::puts(&mut self.rng, bytes, &self.stage.display);
+        if self.rng.percent(30) {
+            self.fill_buffer(FILL_PICTURES);
+        }
+        let stored = self.rng.pick(&[0, 4, 16]);
+        self.run(PUT_RUN, &run, stored);
+        match self.rng.below(4) {
+            0 => drop(self.call(PUT_RUN, 0, 0)),
+            1 => drop(self.call(PUT, 1, 0)),
+            _ => {}
+        }
+    }
+
+    /// Makes a run of so many bytes among the pictures, the first of which are stored there before;
+    /// at times the pictures end before it does.
+    fn run(&mut self, letter: u8, bytes: &[u8], stored: usize) {
+        let end = self.stage.pictures.len() as u32;
+        let any = self.rng.below(end as usize) as u32;
+        let first =
+            self.rng.pick(&[0, 0, any % 64, any % 64, any / 2, any / 2, end - any % 16, any]);
+        let front = &bytes[..bytes.len().min(stored)];
+        for (place, word) in (first..).step_by(4).zip(front.chunks(4)) {
+            let mut whole = [0; 4];
+            whole[..word.len()].copy_from_slice(word);
+            self.call(PICTURE_WORD, place, u32::from_le_bytes(whole));
+        }
+        let length = bytes.len() as u32;
+        let (first, length) = match self.rng.below(30) {
+            0 => (self.rng.pick(&[end, end + 1, u32::MAX]), length),
+            1 => (first, u32::MAX),
+            _ => (first, length),
+        };
+        self.call(letter, first, length);
+    }
+
     /// Writes the words of a scene and starts it; some of the words are faulty.
     fn set_up(&mut self) {
-        let pending = self.stage.display.pending().clone();
         let mut wish = wish(&mut self.rng, &self.stage.display);
         if self.rng.percent(20) {
             let fault = self.rng.range(7, 11) as u32;
@@ -244,8 +301,13 @@ impl Author {
         if self.rng.percent(10) {
             wish.0[0] &= !0b100;
         }
-        for register in (0..WORDS).filter(|&i| pending.0[i] != wish.0[i]) {
-            self.call(WRITE, register as u32, wish.0[register]);
+        let by_run = self.rng.percent(30);
+        if by_run {
+            self.run_writes(&wish);
+        }
+        // What a run leaves out stays out at times, since writing it would hide where the run ended.
+        if !by_run || self.rng.percent(50) {
+            self.write_missing(&wish);
         }
         if self.rng.percent(10) {
             let register = self.rng.pick(&[52, 53, 255, 256, u32::MAX]);
@@ -255,6 +317,34 @@ impl Author {
         for _ in 0..self.rng.range(1, 3) {
             self.call(START, 0, 0);
         }
+    }
+
+    /// Makes words the pending ones.
+    fn write_missing(&mut self, wish: &Words) {
+        for (register, value) in self.missing(wish) {
+            self.call(WRITE, register.into(), value);
+        }
+    }
+
+    /// The writes that make words the pending ones.
+    fn missing(&self, wish: &Words) -> Vec<(u8, u32)> {
+        let pending = self.stage.display.pending();
+        let others = (0..WORDS).filter(|&i| pending.0[i] != wish.0[i]);
+        others.map(|register| (register as u8, wish.0[register])).collect()
+    }
+
+    /// Writes none, some or all of the words by a run. In half of the runs an item names no register;
+    /// behind the items come up to four bytes that are none.
+    fn run_writes(&mut self, wish: &Words) {
+        let mut items = self.missing(wish);
+        items.truncate(self.rng.pick(&[0, 2, 4, 8, WORDS]));
+        if self.rng.percent(50) {
+            let at = self.rng.pick(&[0, items.len() / 2, items.len()]);
+            items.insert(at, (self.rng.pick(&[52, 53, 64, 128, 255]), self.rng.u32()));
+        }
+        let over = self.rng.below(ITEM_LEN);
+        let bytes = [runs::write_bytes(items), self.rng.bytes(over)].concat();
+        self.run(WRITE_RUN, &bytes, bytes.len());
     }
 
     fn toggle(&mut self) {
@@ -298,9 +388,9 @@ impl Author {
     fn lend_all(&mut self) {
         let active = self.stage.display.active();
         let (pictures, out) = (active.pictures_len() as usize, active.output_len() as usize);
-        self.lend(0, TABLES_LEN);
-        self.lend(1, pictures);
-        self.lend(2, out);
+        for (buffer, right) in (0..).zip([TABLES_LEN, pictures, out]) {
+            self.lend(buffer, right, 3);
+        }
     }
 }
 

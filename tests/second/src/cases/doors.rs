@@ -3,7 +3,7 @@
 use crate::answers::DONE;
 use crate::cases::calls::{odd_band, wish};
 use crate::cases::scene::{controller, pictures, spoil};
-use crate::cases::{banks, damage, hosts};
+use crate::cases::{banks, damage, hosts, runs};
 use crate::display::Display;
 use crate::doors::*;
 use crate::rng::Rng;
@@ -14,15 +14,15 @@ use crate::words::WORDS;
 /// The rows that the tests compare unless told otherwise, of the seeds from 0 on.
 pub const ROWS: u64 = 500;
 
-/// A row, a short one or a long one. It is made up of short runs, each going on from what the calls
-/// before it left.
+/// A row, a short one or a long one. It is made up of short parts, each going on from what the
+/// calls before it left.
 pub fn gen_row(seed: u64) -> Vec<Step> {
     // Kept apart from the other cases' seeds.
     let mut author = Author::new(seed ^ 0x646F_6F72);
     let most = if author.rng.percent(40) { author.rng.range(1, 8) } else { 120 };
     author.begin();
     while author.calls < most {
-        match author.rng.below(40) {
+        match author.rng.below(45) {
             0..=6 => author.set_up(),
             7..=13 => author.load(),
             14..=29 => author.paint(),
@@ -30,6 +30,8 @@ pub fn gen_row(seed: u64) -> Vec<Step> {
             32..=34 => author.read(),
             35..=37 => author.damage(),
             38 => drop(author.call(Door::New, 0, 0)),
+            39 | 40 => author.run_any_puts(),
+            41 | 42 => author.run_writes(),
             _ => author.lend_wrong_state(),
         }
     }
@@ -41,11 +43,13 @@ struct Author {
     stage: Stage,
     steps: Vec<Step>,
     calls: i64,
+    /// How many bytes the run has that was stored last.
+    run: usize,
 }
 
 impl Author {
     fn new(seed: u64) -> Author {
-        Author { rng: Rng::new(seed), stage: Stage::new(), steps: Vec::new(), calls: 0 }
+        Author { rng: Rng::new(seed), stage: Stage::new(), steps: Vec::new(), calls: 0, run: 0 }
     }
 
     /// The state that the bytes stand for now.
@@ -66,21 +70,24 @@ impl Author {
         if door != Door::Write && self.rng.percent(10) {
             self.spell_anew();
         }
-        let active = self.display().active().clone();
-        let right =
-            [STATE_LEN, TABLES_LEN, length(active.pictures_len()), length(active.output_len())];
-        self.call_with(door, a, b, right)
+        self.call_with(door, a, b, STATE_LEN)
     }
 
-    fn call_with(&mut self, door: Door, a: u32, b: u32, right: [usize; BUFFERS]) -> u32 {
+    fn call_with(&mut self, door: Door, a: u32, b: u32, state: usize) -> u32 {
+        let display = self.display();
+        let [pictures, out] =
+            [display.active().pictures_len(), display.active().output_len()].map(length);
+        let right = [state, TABLES_LEN, pictures, out, self.run, COUNT_LEN];
         let rng = &mut self.rng;
         let mut lent = [Lent::default(); BUFFERS];
+        // Runs come less often than other calls, and many of them have bytes.
+        let share = if door.takes(RUN) { 10 } else { 5 };
         for buffer in (0..BUFFERS).filter(|&buffer| door.takes(buffer)) {
             let right = right[buffer];
             let near = [0, right.saturating_sub(1), right + 1, right + 4];
-            let is_wrong = buffer != STATE && rng.percent(5);
+            let is_wrong = buffer != STATE && buffer != COUNT && rng.percent(share);
             let length = if is_wrong { rng.pick(&near) } else { right };
-            lent[buffer] = Lent { length: length.min(ROOM), past: rng.below(16) };
+            lent[buffer] = Lent { length: length.min(ROOM), past: rng.pick(&places(buffer)) };
         }
         let step = Step::Call { door, a, b, lent, null: rng.percent(50) };
         let told = self.stage.play(&step).expect("it is a call");
@@ -108,12 +115,12 @@ impl Author {
         let few = self.rng.percent(50);
         let (a, b) = if few { (a % 9, b % 9) } else { (a, b) };
         let state = self.rng.pick(&[0, 0, 4, 208, 416, 432, 435, 437, 440, 872]);
-        let active = self.display().active().clone();
-        let right = [state, TABLES_LEN, length(active.pictures_len()), length(active.output_len())];
-        self.call_with(door, a, b, right);
+        // No run, two writes, or the last one again.
+        self.run = self.rng.pick(&[0, 10, self.run]);
+        self.call_with(door, a, b, state);
     }
 
-    // ---- runs
+    // ---- parts
 
     /// A fresh state by zeros or by a call, or a damaged one.
     fn begin(&mut self) {
@@ -144,7 +151,7 @@ impl Author {
     fn any_call(&mut self) {
         let rng = &mut self.rng;
         let any = rng.u32();
-        let (door, a, b) = match rng.below(9) {
+        let (door, a, b) = match rng.below(12) {
             0 => (Door::Write, rng.pick(&[0, 1, 3, 51, 52, u32::MAX]), any),
             1 => (Door::Select, rng.pick(&[0, 1, 63, 64, u32::MAX]), 0),
             2 => (Door::Toggle, any, 0),
@@ -155,7 +162,9 @@ impl Author {
                 let (low, high) = if rng.percent(70) { (0, 8) } else { odd_band(rng) };
                 (Door::Paint, low, high)
             }
-            _ => (Door::Frame, 0, 0),
+            8 => (Door::Frame, 0, 0),
+            9 | 10 => return self.run_any_puts(),
+            _ => return self.run_writes(),
         };
         self.call(door, a, b);
     }
@@ -178,8 +187,14 @@ impl Author {
             wish.0[0] &= !0b100;
         }
         let pending = display.pending();
-        for register in (0..WORDS).filter(|&i| pending.0[i] != wish.0[i]) {
-            self.call(Door::Write, register as u32, wish.0[register]);
+        let others = (0..WORDS).filter(|&i| pending.0[i] != wish.0[i]);
+        let writes = others.map(|register| (register as u8, wish.0[register]));
+        if self.rng.percent(30) {
+            self.run(Door::WriteRun, runs::write_bytes(writes));
+        } else {
+            for (register, value) in writes {
+                self.call(Door::Write, register.into(), value);
+            }
         }
         if self.rng.percent(20) {
             let register = self.rng.pick(&[52, 53, 255, 256, u32::MAX]);
@@ -206,6 +221,10 @@ impl Author {
         if self.rng.percent(40) {
             self.go_to_end(kind);
         }
+        if self.rng.percent(30) {
+            self.run_puts(&bytes);
+            return;
+        }
         let count = if kind == Kind::Colour { 70 } else { 16 };
         let mut refused = 0;
         for &byte in bytes.iter().cycle().take(1 + self.rng.below(count)) {
@@ -215,6 +234,29 @@ impl Author {
                 return;
             }
         }
+    }
+
+    fn run_puts(&mut self, bytes: &[u8]) {
+        let display = self.display();
+        let run = runs::puts(&mut self.rng, bytes, &display);
+        self.run(Door::PutRun, run);
+    }
+
+    /// Any bytes, wherever a put would go.
+    fn run_any_puts(&mut self) {
+        let bytes = self.rng.bytes(97);
+        self.run_puts(&bytes);
+    }
+
+    fn run_writes(&mut self) {
+        let bytes = runs::writes(&mut self.rng);
+        self.run(Door::WriteRun, bytes);
+    }
+
+    fn run(&mut self, door: Door, bytes: Vec<u8>) {
+        self.run = bytes.len();
+        self.store(RUN, bytes);
+        self.call(door, 0, 0);
     }
 
     /// Selects a bank, mostly an idle one, or leaves what is selected; at times what is no bank.

@@ -1,6 +1,6 @@
-//! Seeded cases for the tests: sheets, host calls, scripts of calls, rows of calls from C, and
-//! inputs that meet what a law asks. A case's number is its seed. What is right or wrong about a
-//! case is never decided here.
+//! Seeded cases for the tests: sheets, host calls, scripts of calls, rows of calls from C, runs,
+//! and inputs that meet what a law asks. A case's number is its seed. What is right or wrong about
+//! a case is never decided here.
 
 mod banks;
 mod calls;
@@ -10,6 +10,7 @@ mod drawings;
 mod form;
 mod hosts;
 mod laws;
+mod runs;
 mod scene;
 mod sheets;
 mod sweeps;
@@ -20,5 +21,6 @@ pub use drawings::drawing_sheet;
 pub use form::line_text;
 pub use hosts::{gen_host, HostCase, HOST_CALLS};
 pub use laws::{gen_exchange, gen_invisible, gen_opaque, Inputs, Pair};
+pub use runs::{end_name, gen_run, item_len, RunCase};
 pub use sheets::{gen_sheet, LINES_A_SHEET, SHEETS};
 pub use sweeps::{byte_sheet, number_sheet, word_images, word_sheet};

@@ -1,10 +1,11 @@
 //! What the rows of calls from C reach.
 
+use crate::runs::{assert_runs, run_kinds, Run};
 use crate::{assert_came, count, show, Counts};
 use second::answers::*;
 use second::cases::{gen_row, ROWS};
 use second::display::Display;
-use second::doors::{Door, Stage, Step, Told, BUFFERS, OUTPUT, STATE};
+use second::doors::*;
 use second::state::{read_state, state_bytes, PLACE_AT, SELECTION_AT, STATE_LEN};
 use second::tables::Bank;
 use second::words::Words;
@@ -52,16 +53,18 @@ fn state_kinds(display: &Display, before: &[u8], door: Door, told: &Told) -> Vec
     }
     let [selection, place] = [SELECTION_AT, PLACE_AT]
         .map(|at| u32::from_le_bytes(before[at..at + 4].try_into().expect("a word")));
-    if door == Door::Put {
+    if matches!(door, Door::Put | Door::PutRun) {
         let end = Bank::of_selection(selection).kind.end();
-        kinds.extend((selection > 63 && is_done).then(|| "put by a selection above 63".into()));
-        kinds.extend((place as usize > end).then(|| format!("put past the end, {}", told.answer)));
+        let is_put = selection > 63 && !told.changes.is_empty();
+        kinds.extend(is_put.then(|| format!("{door:?} by a selection above 63")));
+        let is_past = place as usize > end;
+        kinds.extend(is_past.then(|| format!("{door:?} past the end, {}", told.answer)));
     }
     kinds
 }
 
 /// The answers that each call from C can give.
-const DOOR_ANSWERS: [(Door, &[u32]); 9] = [
+const DOOR_ANSWERS: [(Door, &[u32]); 11] = [
     (Door::New, &[0, 23]),
     (Door::Write, &[0, 1, 23]),
     (Door::Select, &[0, 2, 23]),
@@ -71,6 +74,8 @@ const DOOR_ANSWERS: [(Door, &[u32]); 9] = [
     (Door::Fill, &[0, 12, 13, 23]),
     (Door::Paint, &[0, 6, 12, 13, 14, 15, 23]),
     (Door::Frame, &[0, 6, 12, 13, 14, 23]),
+    (Door::PutRun, &[0, 3, 4, 5, 6, 23]),
+    (Door::WriteRun, &[0, 1, 23]),
 ];
 
 fn count_rows() -> Counts {
@@ -79,8 +84,13 @@ fn count_rows() -> Counts {
         let mut stage = Stage::new();
         for step in row {
             let before = stage.rooms[STATE][..STATE_LEN].to_vec();
-            if let Some(told) = stage.play(&step) {
-                count(&mut counts, door_kinds(&before, &step, &told));
+            let Some(told) = stage.play(&step) else { continue };
+            count(&mut counts, door_kinds(&before, &step, &told));
+            let Step::Call { door, lent, .. } = step else { continue };
+            if door.takes(RUN) {
+                let bytes = &stage.rooms[RUN][..lent[RUN].length];
+                let run = Run { door, state: &before, tables: lent[TABLES].length, bytes };
+                count(&mut counts, run_kinds(&run, &told));
             }
         }
     }
@@ -97,11 +107,11 @@ fn assert_calls(counts: &Counts) {
     }
     for door in Door::ALL {
         let buffers = (0..BUFFERS).filter(|&buffer| door.takes(buffer));
-        let places = buffers.flat_map(|buffer| (0..16).map(move |past| (buffer, past)));
+        let ways = |buffer| places(buffer).into_iter().map(move |past| (buffer, past));
         let kind = |(buffer, past)| format!("{door:?} with buffer {buffer} past 16 by {past}");
-        assert_came(counts, places.map(kind), 1);
+        assert_came(counts, buffers.flat_map(ways).map(kind), 1);
     }
-    assert_came(counts, (0..BUFFERS).map(|buffer| format!("buffer {buffer} as NULL")), 20);
+    assert_came(counts, (0..COUNT).map(|buffer| format!("buffer {buffer} as NULL")), 20);
 }
 
 /// States that no call may have left: painted, put to, refused, and spelt by other bytes than a call
@@ -115,8 +125,11 @@ fn assert_damages(counts: &Counts) {
     let others = [
         "damaged, Paint answers 14",
         "damaged, Frame answers 14",
-        "put by a selection above 63",
-        "put past the end, 5",
+        "Put by a selection above 63",
+        "Put past the end, 5",
+        "PutRun by a selection above 63",
+        "PutRun past the end, 0",
+        "PutRun past the end, 5",
     ];
     assert_came(counts, others.map(String::from), 10);
     for (door, answers) in DOOR_ANSWERS {
@@ -132,4 +145,5 @@ fn rows_reach_everything() {
     show("calls from C by kind", &counts);
     assert_calls(&counts);
     assert_damages(&counts);
+    assert_runs(&counts);
 }

@@ -2,10 +2,13 @@
 //! fade and order of depths. `--nocapture` shows the counts.
 
 mod doors;
+mod runs;
 
 use second::answers::*;
-use second::cases::{gate_script, gen_calls, gen_edges, gen_host, gen_row, gen_sheet, HostCase};
-use second::cases::{EDGES, HOST_CALLS, LINES_A_SHEET, RECORDS_A_SCRIPT, SCRIPTS, SHEETS};
+use second::cases::{end_name, gate_script, gen_calls, gen_edges, gen_host, gen_row, gen_sheet};
+use second::cases::{HostCase, EDGES, HOST_CALLS, LINES_A_SHEET};
+use second::cases::{RECORDS_A_SCRIPT, SCRIPTS, SHEETS};
+use second::display::ITEM_LEN;
 use second::draw::List;
 use second::host::{host_frame, image_words};
 use second::script::*;
@@ -99,6 +102,28 @@ const FADES: [&str; 9] = [
     "fade wrapped past 2^32",
     "fade with e at 2^31",
     "fade with e at 2^31 - 1",
+];
+
+/// Where runs of puts and of writes end, and how.
+const RUNS: [&str; 18] = [
+    "U sets error bits",
+    "U empty, 0",
+    "U whole, where a put then answers 0",
+    "U whole, where a put then answers 5",
+    "U broken at the first, 3",
+    "U broken at the first, 4",
+    "U broken at the first, 5",
+    "U broken at the first, 6",
+    "U broken amid, 5",
+    "U broken at the last, 5",
+    "U cut by the end of the pictures",
+    "X empty, 0",
+    "X whole, 0",
+    "X broken at the first, 1",
+    "X broken amid, 1",
+    "X broken at the last, 1",
+    "X changes pending words",
+    "start right after X",
 ];
 
 /// Every layer at every depth, and of every two layers either one over the other.
@@ -197,7 +222,8 @@ fn block_kinds(case: &HostCase) -> BTreeSet<String> {
 }
 
 /// What a record of a script does, by names.
-fn kinds(before: &Stage, call: Call, answer: u32, after: &Stage) -> Vec<String> {
+fn kinds(before: &Stage, call: Call, told: (u32, usize), after: &Stage) -> Vec<String> {
+    let answer = told.0;
     let letter = call.letter as char;
     let mut kinds = vec![format!("{letter}")];
     if CALLS.contains(&call.letter) {
@@ -212,6 +238,7 @@ fn kinds(before: &Stage, call: Call, answer: u32, after: &Stage) -> Vec<String> 
         START if answer != DONE && before.display.active().output_len() > 0 => {
             vec!["start refused after a frame".into()]
         }
+        PUT_RUN | WRITE_RUN => run_kinds(before, call, told, after),
         _ => Vec::new(),
     });
     kinds.extend(wrong_lengths(before, call, answer));
@@ -222,6 +249,30 @@ fn kinds(before: &Stage, call: Call, answer: u32, after: &Stage) -> Vec<String> 
         kinds.push(format!("{letter} sets error bits"));
     }
     kinds
+}
+
+/// Where a run ends and with which answer, and what is behind it: in its table, by what a put then
+/// answers, or of bytes that are no item.
+fn run_kinds(before: &Stage, call: Call, told: (u32, usize), after: &Stage) -> Vec<String> {
+    let letter = call.letter as char;
+    let (answer, done) = told;
+    let run = call.run(&before.pictures);
+    let item = if call.letter == PUT_RUN { 1 } else { ITEM_LEN };
+    let end = end_name(run.len() / item, done as u64);
+    let behind = match call.letter {
+        PUT_RUN => {
+            let next = after.clone().play(Call { letter: PUT, a: 0, b: 0 }).0;
+            format!("U {end}, where a put then answers {next}")
+        }
+        _ => format!("X with {} bytes over", run.len() % ITEM_LEN),
+    };
+    let so = [
+        ("cut by the end of the pictures", !run.is_empty() && run.len() < call.b as usize),
+        ("from past the pictures", call.b > 0 && call.a as usize >= before.pictures.len()),
+        ("changes pending words", before.display.pending() != after.display.pending()),
+    ];
+    let so = so.iter().filter(|(_, is_so)| *is_so).map(|(kind, _)| format!("{letter} {kind}"));
+    [format!("{letter} {end}, {answer}"), behind].into_iter().chain(so).collect()
 }
 
 /// What a fill, a band or a frame does that is not refused.
@@ -276,16 +327,20 @@ fn count_kinds(calls: &[Call], counts: &mut Counts) {
     let mut stage = Stage::new();
     for &call in calls {
         let before = stage.clone();
-        let answer = stage.play(call);
-        count(counts, kinds(&before, call, answer, &stage));
+        let told = stage.play(call);
+        count(counts, kinds(&before, call, told, &stage));
     }
+    let pairs = calls.windows(2).map(|pair| [pair[0].letter, pair[1].letter]);
+    let shown = pairs.filter(|pair| *pair == [WRITE_RUN, START]);
+    count(counts, shown.map(|_| "start right after X".into()));
 }
 
 /// The kinds that every script of the gate's length has to have, named as `kinds` names them.
 fn wanted_kinds() -> Vec<String> {
     let mut wanted: Vec<String> = (DONE..=WRONG_BAND).map(|n| format!("answer {n}")).collect();
-    let others = [NEW, LEND, FILL_TABLES, FILL_PICTURES, FILL_OUT, TABLE_WORD, VIEW];
+    let others = [NEW, LEND, FILL_TABLES, FILL_PICTURES, FILL_OUT, TABLE_WORD, PICTURE_WORD, VIEW];
     wanted.extend(CALLS.iter().chain(&others).map(|&letter| (letter as char).to_string()));
+    wanted.extend((0..ITEM_LEN).map(|n| format!("X with {n} bytes over")));
     for letter in ["F", "B", "R"] {
         wanted.push(format!("{letter} over a dirty buffer"));
         wanted.push(format!("{letter} changes the output"));
@@ -308,7 +363,7 @@ fn wanted_kinds() -> Vec<String> {
         "R sets error bits",
         "P sets error bits",
     ];
-    wanted.extend(others.map(String::from));
+    wanted.extend(others.into_iter().chain(RUNS).map(String::from));
     wanted
 }
 
@@ -322,10 +377,14 @@ fn scripts_reach_everything() {
         count_kinds(&gen_edges(seed), &mut counts);
     }
     show("records of scripts by kind", &counts);
-    let calls = ["P answers 6", "F answers 13", "B answers 13", "B answers 6", "B answers 14"];
-    let lengths = calls.map(|call| [format!("{call}, too short"), format!("{call}, too long")]);
+    let calls = [("P", 6), ("U", 6), ("F", 13), ("B", 13), ("B", 6), ("B", 14)];
+    let lengths = ["too short", "too long"]
+        .map(|wrong| calls.map(|(letter, answer)| format!("{letter} answers {answer}, {wrong}")));
+    let empty = [0, 3, 4, 5, 6].map(|n| format!("U empty, where a put then answers {n}"));
+    let past = ["U", "X"].map(|letter| format!("{letter} from past the pictures"));
     assert_came(&counts, wanted_kinds(), 10);
     assert_came(&counts, lengths.concat(), 5);
+    assert_came(&counts, empty.into_iter().chain(past), 5);
     assert_came(&counts, FADES.map(String::from), 10);
     assert_came(&counts, ["list without END", "list at global alpha"].map(String::from), 100);
     assert_came(&counts, depth_kinds(), 10);

@@ -1,0 +1,51 @@
+-- `display::doors::spoonwing_display_put_run` meets its contract: a wrong length is the first case, and else
+-- the state is taken apart, the run made, its count told and the state put back. Assumes nothing.
+use borrow.Author.Needs.{needs}
+use mathlib.Core.Path.{ap, _∙_}
+use Rattle.display.specs.declared.Ran.{Ran}
+use Rattle.display.specs.Runs.{toldBy}
+use Rattle.display.proofs.DoorLaws.{door-length, door-done, buffer-length, buffer-done, read-length, read-done}
+use Rattle.display.proofs.doors.spoonwing_display_put_run.Statement.{statement}
+use Rattle.display.proofs.doors.spoonwing_display_put_run.Tie as tie
+
+cast-result : tie.Need-cast-result
+cast-result c = search needs
+
+returns : tie.Need-returns
+returns c =
+    let ne = c .if1 .taken in
+    let r = door-length _ _ ne in
+    (r .0, (r .1, (buffer-length _ _ _ ne, read-length _ _ ne)))
+
+taken-requires : tie.Need-taken-requires
+taken-requires c κs = search needs
+
+put-run-requires : tie.Need-put-run-requires
+put-run-requires c κs = search needs
+
+told-by-requires : tie.Need-told-by-requires
+told-by-requires c κs = search needs
+
+given-requires : tie.Need-given-requires
+given-requires c κs = search needs
+
+same-length : tie.Need-same-length
+same-length c = search needs
+
+same-length-2 : tie.Need-same-length-2
+same-length-2 c = search needs
+
+returns-2 : tie.Need-returns-2
+returns-2 c =
+    let long = c .before .before .before .before .before .before .before .before .before .before .before .if1 .left in
+    let e = c .before .before .before .before .before .before .before .before .before .taken .ensures in
+    let ran = c .before .before .before .before .before .before .before .put-run .ensures in
+    let r = door-done _ _ _ _ _ _ long e (c .before .before .before .before .told-by .ensures ∙ ap toldBy (ran .0))
+    (c .before .before .given .ensures .0) (c .before .before .given .ensures .1) in
+    let count = ap (λ (x : Ran). x .done) (ran .0) in
+    (r .0, (r .1, (buffer-done _ _ _ _ _ long e (ran .1), read-done _ _ _ _ long e count)))
+
+pub spoonwing-display-put-run-spec : {M : Type 1} → statement M
+spoonwing-display-put-run-spec =
+    tie.close (tie.spec cast-result returns taken-requires put-run-requires told-by-requires given-requires same-length
+    same-length-2 returns-2)
