@@ -91,7 +91,7 @@ module _ (d : Display) (tables : List ℕ) where
 -- ---- a run of puts
 
 -- what a run leaves, by what was loaded
-abbrev pub laden : Display → Loaded → List ℕ → Many Lent
+abbrev laden : Display → Loaded → List ℕ → Many Lent
 laden d l tables = many (lent (withErrors (withPlace d (l .place)) (l .errors)) tables) (l .answer) (l .done)
 
 abbrev loadFor : Display → List ℕ → ℕ → Loaded

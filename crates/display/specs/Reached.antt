@@ -13,7 +13,8 @@ use Rattle.display.specs.Put.{putOf}
 use Rattle.display.specs.Paint.{fillTold, paintTold, frameTold}
 
 -- the fresh state, and what each call makes of one that has come to be. Numbers are not held to 32 bits
--- nor bytes to 8, as the calls' types hold them, so that there are rather more states here than fewer
+-- nor bytes to 8, as the calls' types hold them, so that there are rather more states here than fewer. A run
+-- makes none that its single calls do not (`laws/proofs/Runs`)
 pub data Reached : Display → Type 0 where
   by-new : Reached fresh
   by-write : {d : Display} (register value : ℕ) → Reached d → Reached (writeOf d register value .state)

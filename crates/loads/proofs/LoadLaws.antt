@@ -10,6 +10,7 @@ use lib.Bits.{bitOr}
 use lib.Dec.{eqb}
 use lib.ListN.{length, take, drop, set, length-set}
 use lib.Seq.{take-all}
+use Rattle.lists.specs.Over.{over}
 use Rattle.lists.proofs.Choice.{same-or, pick-keeps}
 use Rattle.answers.specs.Answers.{done, notSelected, bankActive, bankFull, tablesLength}
 use Rattle.tables.specs.Geometry.{tablesLen}
@@ -49,7 +50,7 @@ module _ (active : List ℕ) (made : Bool) (number long : ℕ) where
 
 -- none
 pub stored-none : (l : List ℕ) (o : ℕ) → stored l o [] ≡ l
-unfolding stored
+unfolding stored over
 stored-none [] zero = refl
 stored-none [] (suc o) = refl
 stored-none (x ∷ l) zero = refl
@@ -58,7 +59,7 @@ stored-none (x ∷ l) (suc o) = ap (λ (k : List ℕ). x ∷ k) (stored-none l o
 -- one, and then those behind it
 pub stored-set : (l : List ℕ) (o byte : ℕ) (run : List ℕ) → o < length l
     → stored (set l o byte) (suc o) run ≡ stored l o (byte ∷ run)
-unfolding stored
+unfolding stored over
 stored-set [] o byte run h = absurd (omega arith)
 stored-set (x ∷ l) zero byte run h = refl
 stored-set (x ∷ l) (suc o) byte run h = ap (λ (k : List ℕ). x ∷ k) (stored-set l o byte run (omega arith))
@@ -76,7 +77,7 @@ drop-take (suc k) (x ∷ m) = drop-take k m
 pub stored-lent : (l part : List ℕ) (o : ℕ) (out : List ℕ)
     → out ≡ take (length part) part ++ drop (length part) (take (o + length part - o) (drop o l))
     → take o l ++ (out ++ drop (o + length part - o) (drop o l)) ≡ stored l o part
-unfolding stored
+unfolding stored over
 stored-lent l part o out g =
     let e : o + length part - o ≡ length part = omega arith in
     let h = rw e at g in

@@ -6,6 +6,7 @@ use lib.ListN.{length, take, drop, set}
 use lib.Dec.{ltb, eqb}
 use lib.Bits.{bitOr}
 use Rattle.lists.specs.Choice.{pick, choose, orElse}
+use Rattle.lists.specs.Over.{over}
 use Rattle.answers.specs.Answers.{done, noRegister, notSelected, bankActive, bankFull, tablesLength}
 use Rattle.tables.specs.Geometry.{tablesLen}
 use Rattle.tables.specs.Selection.{controllerOf, endOf, firstByteOf, namedBy}
@@ -33,7 +34,7 @@ fitsOf place number n = min n (endOf number - place)
 
 -- a list with bytes in place of those from a place on
 unfoldable pub stored : List ℕ → ℕ → List ℕ → List ℕ
-stored tables at bytes = take at tables ++ (bytes ++ drop (length bytes) (drop at tables))
+stored tables at bytes = take at tables ++ over bytes (drop at tables)
 
 -- the parts of an answer
 abbrev pub loaded : ℕ → ℕ → ℕ → ℕ → Loaded

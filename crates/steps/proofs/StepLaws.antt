@@ -50,7 +50,7 @@ unfolding runOf
 runOf-append m [] ys = refl
 runOf-append m (s ∷ xs) ys = runOf-append (stepOf m s) xs ys
 
-run-refused : (m : Midway) (l : List Act) → (m .told .answer ≡ done → ⊥) → m ≡ runOf m l
+pub run-refused : (m : Midway) (l : List Act) → (m .told .answer ≡ done → ⊥) → m ≡ runOf m l
 unfolding runOf
 run-refused m [] ne = refl
 run-refused m (s ∷ l) ne =
@@ -94,10 +94,6 @@ puts-many (suc n) b at d t h =
     ∙ ap (λ (m : Midway). runOf m (putsAt n b (at + 1))) (sym (first-put d t x))
 
 -- as the code has it
-pub puts-refused : (t : Told) (l : List ℕ) (n at : ℕ) (b : List ℕ) → (t .answer ≡ done → ⊥)
-    → midway t l ≡ runOf (midway t l) (putsAt n b at)
-puts-refused t l n at b ne = run-refused (midway t l) (putsAt n b at) ne
-
 pub puts-run : (t : Told) (l u : List ℕ) (n at : ℕ) (b : List ℕ) (r : Ran) → t .answer ≡ done → at + n ≤ length b
     → r ≡ putRunOf (t .state) l (take (at + n - at) (drop at b))
     → u ≡ putRunTables (t .state) l (take (at + n - at) (drop at b))

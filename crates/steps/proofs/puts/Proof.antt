@@ -1,12 +1,12 @@
 -- `steps::puts` meets its contract: after a refusal nothing is put, and else the bytes put one after another are
 -- a run of them. Assumes nothing.
 use borrow.Author.Needs.{needs}
-use Rattle.steps.proofs.StepLaws.{puts-refused, puts-run}
+use Rattle.steps.proofs.StepLaws.{run-refused, puts-run}
 use Rattle.steps.proofs.puts.Statement.{statement}
 use Rattle.steps.proofs.puts.Tie as tie
 
 returns : tie.Need-returns
-returns c = puts-refused _ _ _ _ _ (c .if1 .taken)
+returns c = run-refused _ _ (c .if1 .taken)
 
 add-end : tie.Need-add-end
 add-end c = search needs
