@@ -1,5 +1,6 @@
-/* Paintings for an emulator that logs what is executed: the subjects at the smaller size, then each
- * step of growth at a quarter of its width and height; and a kept display's calls and loads. */
+/* Paintings for an emulator that logs what is executed: the subjects at the smaller size, each step
+ * of growth at a quarter of its width and height, text at the smaller size; and a kept display's
+ * calls and loads. */
 #define _XOPEN_SOURCE 700
 #include <stdio.h>
 #include <stdlib.h>
@@ -12,6 +13,7 @@
 #include "report.h"
 #include "run.h"
 #include "subjects.h"
+#include "text.h"
 
 enum { DIVISOR = 4 };
 
@@ -56,6 +58,17 @@ static void paint_growth(const struct growth *growth)
     }
 }
 
+static void paint_text(enum scale scale, const struct size *size)
+{
+    dprintf(STDOUT_FILENO, "text\tscale %d, %u x %u\t%g\n", 1 << scale, (unsigned)size->width,
+            (unsigned)size->height, TEXT_WANTED);
+    for (int i = 0; i < TEXT_RUNS; i++) {
+        struct scene *scene = text_scene(&TEXT_RUN[i], scale, size);
+        paint_marked(TEXT_RUN[i].painter, scene);
+        drop_scene(scene);
+    }
+}
+
 /* Marks the second doing of two, as with paintings. */
 static void do_marked(doing *doing, struct kept *kept, int what, int ways)
 {
@@ -86,6 +99,8 @@ void paint_counted(void)
         paint_subject(&SUBJECT[i], &SIZE[SIZES - 1]);
     for (int i = 0; i < GROWTHS; i++)
         paint_growth(&GROWTH[i]);
+    for (int i = 0; i < SCALES; i++)
+        paint_text(i, &SIZE[SIZES - 1]);
     for (int i = 0; i < WORKS; i++)
         work_marked(i);
     for (int i = 0; i < LOADS; i++)

@@ -1,5 +1,5 @@
-/* Both sides begin with the registers of the museum scene, pending and active, and with a font of
- * its idle banks selected. */
+/* Both sides begin with the registers of the museum scene, pending and active, with a font of its
+ * idle banks selected, and with one bit a glyph pixel, as the scene's tables have. */
 #include <stdlib.h>
 #include <string.h>
 
@@ -8,7 +8,7 @@
 
 enum { DISPLAY_ON = 1, UPDATE_ENABLE = 4 };
 
-/* The struct is the state's 109 words: a size below 0 does not compile. */
+/* The struct is the state's 110 words: a size below 0 does not compile. */
 typedef char same_length[sizeof(struct plain_display) == SPOONWING_STATE_LEN ? 1 : -1];
 
 const char *const WORK_NAME[WORKS] = {

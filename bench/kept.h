@@ -9,16 +9,17 @@
  * a painting's refusals and nothing to paint. */
 enum { WRITE, START, UPDATE, EMPTY_BAND, PUT, WORKS };
 
-/* A font has so many bytes, so that many puts follow one select. */
-enum { CALLS = GLYPHS * GLYPH_LENGTH };
+/* A font of one bit has so many bytes, so that many puts follow one select. */
+enum { CALLS = FONT_LENGTH(1) };
 
 /* The table that both sides begin with: the font of controller 0's bank 1, and where it stands. */
-enum { IDLE_FONT = 3 << 1 | 1, IDLE_FONT_AT = BANK_LENGTH + FONT_AT };
+enum { IDLE_FONT = 3 << 1 | 1, IDLE_FONT_AT = BANK_LENGTH(1) + FONT_AT };
 
 /* The state's words, in the order of its bytes. */
 struct plain_display {
     uint32_t pending[REGISTERS], active[REGISTERS];
     uint32_t frame, errors, is_selected, selection, place;
+    uint32_t profile; /* 1: two bits a glyph pixel, 0: one */
 };
 
 struct kept {

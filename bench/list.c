@@ -1,11 +1,11 @@
-/* Written from document 01's "Graphics layers". Ends are included throughout, as a box's are. */
+/* Written from document 01's "Graphics layers" and K2. Ends are included, as those of a box are. */
 #include <stddef.h>
 #include <string.h>
 
 #include "list.h"
 #include "tables.h"
 
-enum { GLYPH_SIDE = 8, FIRST_GLYPH = 32, LAST_GLYPH = FIRST_GLYPH + GLYPHS - 1 };
+enum { FIRST_GLYPH = 32, LAST_GLYPH = FIRST_GLYPH + GLYPHS - 1 };
 
 struct plane {
     uint8_t *indexes;
@@ -60,41 +60,56 @@ static void obey_box(const struct plane *plane, const uint8_t *instruction)
 
 /* ---- text */
 
-static void draw_glyph_row(const struct plane *plane, uint8_t bits, uint32_t x, uint32_t y,
-                           uint32_t side, uint8_t colour)
+/* How a text is lettered: so many bits a glyph pixel, each a square of that side, in this colour
+ * and, with two bits, in the two after it. */
+struct lettering {
+    int bits;
+    uint32_t side, colour;
+};
+
+/* A line of a glyph as a number, its leftmost pixel in the top bits. How many bits is a constant of
+ * each call, so that text of one bit costs what it did. */
+static void draw_line(const struct plane *plane, struct lettering as, int bits, uint32_t line,
+                      uint32_t x, uint32_t y)
 {
-    for (uint32_t i = 0; i < GLYPH_SIDE; i++) {
-        uint32_t left = x + i * side;
-        if (bits >> (GLYPH_SIDE - 1 - i) & 1)
-            fill_box(plane, (struct box){left, left + side - 1, y, y + side - 1}, colour);
+    for (int i = GLYPH_SIDE - 1; i >= 0; i--, x += as.side) {
+        uint32_t value = line >> (i * bits) & ((1u << bits) - 1);
+        if (value != 0)
+            fill_box(plane, (struct box){x, x + as.side - 1, y, y + as.side - 1},
+                     (uint8_t)((as.colour + value - 1) % COLOURS));
     }
 }
 
-static void draw_glyph(const struct plane *plane, const uint8_t *glyph, uint32_t x, uint32_t y,
-                       uint32_t side, uint8_t colour)
+static void draw_glyph(const struct plane *plane, struct lettering as, const uint8_t *glyph,
+                       uint32_t x, uint32_t y)
 {
-    for (uint32_t row = 0; row < GLYPH_SIDE; row++)
-        draw_glyph_row(plane, glyph[row], x, y + row * side, side, colour);
+    for (uint32_t row = 0; row < GLYPH_SIDE; row++, y += as.side) {
+        if (as.bits == 1)
+            draw_line(plane, as, 1, glyph[row], x, y);
+        else
+            draw_line(plane, as, 2, (uint32_t)glyph[2 * row] << 8 | glyph[2 * row + 1], x, y);
+    }
 }
 
-static void obey_text(const struct plane *plane, const uint8_t *bank, const uint8_t *instruction)
+static void obey_text(const struct plane *plane, const uint8_t *bank, int bits,
+                      const uint8_t *instruction)
 {
-    uint32_t x = word_at(instruction) & 4095, down = word_at(instruction + 8);
-    uint32_t y = down & 4095, side = UINT32_C(1) << (down >> 30);
-    uint8_t number = instruction[4], colour = instruction[13] & 15;
+    uint32_t x = word_at(instruction) & 4095, down = word_at(instruction + 8), y = down & 4095;
+    struct lettering as = {bits, UINT32_C(1) << (down >> 30), instruction[13]};
+    uint8_t number = instruction[4];
     if (number >= STRINGS)
         return;
     const uint8_t *string = bank + STRINGS_AT + STRING_LENGTH * number;
-    for (int i = 0; i < STRING_LENGTH && string[i] != 0; i++, x += GLYPH_SIDE * side) {
-        const uint8_t *glyph = bank + FONT_AT + GLYPH_LENGTH * (string[i] - FIRST_GLYPH);
+    for (int i = 0; i < STRING_LENGTH && string[i] != 0; i++, x += GLYPH_SIDE * as.side) {
+        const uint8_t *glyph = bank + FONT_AT + GLYPH_LENGTH(bits) * (string[i] - FIRST_GLYPH);
         if (string[i] >= FIRST_GLYPH && string[i] <= LAST_GLYPH)
-            draw_glyph(plane, glyph, x, y, side, colour);
+            draw_glyph(plane, as, glyph, x, y);
     }
 }
 
 /* ---- the list */
 
-void draw_list(const uint8_t *bank, uint32_t width, uint32_t height, uint8_t *indexes)
+void draw_list(const uint8_t *bank, int bits, uint32_t width, uint32_t height, uint8_t *indexes)
 {
     struct plane plane = {indexes, width, height};
     memset(indexes, 0, (size_t)width * height);
@@ -106,6 +121,6 @@ void draw_list(const uint8_t *bank, uint32_t width, uint32_t height, uint8_t *in
         if (opcode == BOX || opcode == BOX_AND_TEXT)
             obey_box(&plane, instruction);
         if (opcode == TEXT || opcode == BOX_AND_TEXT)
-            obey_text(&plane, bank, instruction);
+            obey_text(&plane, bank, bits, instruction);
     }
 }

@@ -25,11 +25,13 @@ int main(int count, char **words)
         return 2;
     }
     print_bytes();
+    check_text();
     check_calls();
     print_stack();
     if (!is_bytes) {
         print_ratios();
         print_growth();
+        print_text();
         print_calls();
         print_loads();
     }

@@ -75,7 +75,7 @@ static void paint_list(const struct scene *scene, int n, uint8_t *output, uint8_
 {
     const struct layer *layer = &scene->layer[n];
     const uint8_t *bank = bank_of(scene, n), *colours = bank + COLOURS_AT;
-    draw_list(bank, layer->width, layer->height, indexes);
+    draw_list(bank, scene->bits, layer->width, layer->height, indexes);
     for (uint32_t v = 0; v < layer->height; v++) {
         uint8_t *under = row_of(scene, layer, v, output);
         const uint8_t *row = indexes + (size_t)v * layer->width;

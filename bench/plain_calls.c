@@ -17,7 +17,7 @@ static void paint_nothing(struct kept *kept)
 {
     const struct scene *scene = kept->scene;
     for (int i = 0; i < CALLS; i++)
-        plain_refusal(&kept->plain, 4, 4, sizeof scene->tables, scene->pictures_length,
+        plain_refusal(&kept->plain, 4, 4, tables_length(scene), scene->pictures_length,
                       frame_length(scene));
 }
 

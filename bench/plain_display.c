@@ -1,4 +1,4 @@
-/* Written from document 01's "Registers", "Tables" and "Answers by number", and from K1. */
+/* Written from document 01's "Registers", "Tables" and "Answers by number", and from K1 and K2. */
 #include <string.h>
 
 #include "plain_display.h"
@@ -111,17 +111,25 @@ uint32_t plain_select(struct plain_display *display, uint32_t selection)
     return SPOONWING_DONE;
 }
 
-/* Where in a bank its tables begin, and where the last ends. */
-static const uint32_t BEGIN[] = {0, COLOURS_AT, STRINGS_AT, FONT_AT, BANK_LENGTH};
+/* Where in a bank its tables begin, and where the last ends, by the profile. */
+static const uint32_t BEGIN[][KINDS + 1] = {
+    {0, COLOURS_AT, STRINGS_AT, FONT_AT, BANK_LENGTH(1)},
+    {0, COLOURS_AT, STRINGS_AT, FONT_AT, BANK_LENGTH(2)},
+};
 
 static uint32_t controller(const struct plain_display *d) { return d->selection >> 3 & 7; }
 static uint32_t kind(const struct plain_display *d) { return d->selection >> 1 & 3; }
 static uint32_t bank(const struct plain_display *d) { return d->selection & 1; }
 
+static size_t tables_asked(const struct plain_display *display)
+{
+    return display->profile ? SPOONWING_SOFT_TABLES_LENGTH : SPOONWING_TABLES_LENGTH;
+}
+
 /* 6, 3 or 4. */
 static uint32_t put_refusal(const struct plain_display *display, size_t length)
 {
-    if (length != SPOONWING_TABLES_LENGTH)
+    if (length != tables_asked(display))
         return SPOONWING_BAD_TABLES_LENGTH;
     if (!display->is_selected)
         return SPOONWING_NOT_SELECTED;
@@ -133,15 +141,17 @@ static uint32_t put_refusal(const struct plain_display *display, size_t length)
 /* How many bytes the selected table still takes. */
 static size_t bytes_left(const struct plain_display *display)
 {
-    uint32_t length = BEGIN[kind(display) + 1] - BEGIN[kind(display)];
+    const uint32_t *begin = BEGIN[display->profile] + kind(display);
+    uint32_t length = begin[1] - begin[0];
     return display->place < length ? length - display->place : 0;
 }
 
 /* The place of the next byte among the tables. */
 static size_t next_byte(const struct plain_display *display)
 {
-    return CONTROLLER_LENGTH * controller(display) + BANK_LENGTH * bank(display) +
-           BEGIN[kind(display)] + display->place;
+    const uint32_t *begin = BEGIN[display->profile];
+    return begin[KINDS] * (2 * controller(display) + bank(display)) + begin[kind(display)] +
+           display->place;
 }
 
 static uint32_t full(struct plain_display *display)
@@ -195,7 +205,7 @@ uint32_t plain_refusal(const struct plain_display *display, uint32_t low, uint32
         return SPOONWING_NO_SIZE;
     if (output_length != output)
         return SPOONWING_BAD_OUTPUT_LENGTH;
-    if (tables_length != SPOONWING_TABLES_LENGTH)
+    if (tables_length != tables_asked(display))
         return SPOONWING_BAD_TABLES_LENGTH;
     for (int n = 0; n < LAYERS; n++) {
         const uint32_t *layer = layer_words(display->active, n);

@@ -18,7 +18,7 @@ static void paint_nothing(struct kept *kept)
     struct scene *scene = kept->scene;
     for (int i = 0; i < CALLS; i++)
         spoonwing_display_paint(kept->state, sizeof kept->state, 4, 4, scene->tables,
-                                sizeof scene->tables, scene->pictures, scene->pictures_length,
+                                tables_length(scene), scene->pictures, scene->pictures_length,
                                 kept->output, frame_length(scene));
 }
 
@@ -28,7 +28,7 @@ static void put(struct kept *kept)
     spoonwing_display_select(kept->state, sizeof kept->state, kept->plain.selection);
     for (int i = 0; i < CALLS; i++)
         spoonwing_display_put(kept->state, sizeof kept->state, scene->tables,
-                              sizeof scene->tables, (uint8_t)i);
+                              tables_length(scene), (uint8_t)i);
 }
 
 work *const PROVED_WORK[WORKS] = {write, start, start, paint_nothing, put};

@@ -14,6 +14,12 @@ void print_ratios(void);
 /* What doubling the pixels, the layers or the instructions costs. */
 void print_growth(void);
 
+/* Compares text of one bit a glyph pixel and of two with the formula's, likewise. */
+void check_text(void);
+
+/* The time of text of two bits as a multiple of that of one. */
+void print_text(void);
+
 /* Compares what a kept display's calls and loads leave with a plain struct's, likewise. */
 void check_calls(void);
 
@@ -24,9 +30,9 @@ void print_calls(void);
 void print_loads(void);
 
 /* Paints and calls for an emulator that logs what is executed. Among the log stand a line for each
- * row, its table, its name, for ratios its pixels and for calls and loads their number, with tabs
- * between, and around each painting, each side's calls and each way's loads of the row the lines
- * "begin" and "end". */
+ * row, its table, its name, for ratios its pixels, for text the most that is wanted, and for calls
+ * and loads their number, with tabs between, and around each painting, each side's calls and each
+ * way's loads of the row the lines "begin" and "end". */
 void paint_counted(void);
 
 /* A cell with a number and, where one is wanted, the most that it may be. */

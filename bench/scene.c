@@ -23,9 +23,14 @@ size_t frame_length(const struct scene *scene)
     return (size_t)PIXEL * scene->width * scene->height;
 }
 
+size_t tables_length(const struct scene *scene)
+{
+    return (size_t)TABLES_LENGTH(scene->bits);
+}
+
 const uint8_t *bank_of(const struct scene *scene, int layer)
 {
-    return scene->tables + CONTROLLER_LENGTH * layer;
+    return scene->tables + CONTROLLER_LENGTH(scene->bits) * layer;
 }
 
 /* ---- pictures */
@@ -52,7 +57,7 @@ struct scene *new_scene(uint32_t width, uint32_t height, int pictures, enum look
 {
     struct scene *scene = room(sizeof *scene);
     *scene = (struct scene){.width = width, .height = height, .frame = FRAME,
-                            .ground = {30, 62, 88}, .layers = pictures};
+                            .ground = {30, 62, 88}, .bits = 1, .layers = pictures};
     size_t length = frame_length(scene);
     scene->pictures_length = length * (size_t)pictures;
     scene->pictures = room(scene->pictures_length);
@@ -73,7 +78,7 @@ struct bank add_list(struct scene *scene, struct layer layer)
     layer.is_graphics = 1;
     layer.depth = (uint32_t)n;
     scene->layer[n] = layer;
-    return first_bank(scene->tables, n);
+    return first_bank(scene->tables, n, scene->bits);
 }
 
 /* What a layer's list draws, each index through the layer's colours. */
@@ -83,7 +88,7 @@ static uint8_t *list_pixels(const struct scene *scene, int n)
     const uint8_t *bank = bank_of(scene, n);
     size_t count = (size_t)layer->width * layer->height;
     uint8_t *pixels = room(PIXEL * count), *indexes = room(count);
-    draw_list(bank, layer->width, layer->height, indexes);
+    draw_list(bank, scene->bits, layer->width, layer->height, indexes);
     for (size_t i = 0; i < PIXEL * count; i++)
         pixels[i] = bank[COLOURS_AT + PIXEL * indexes[i / PIXEL] + i % PIXEL];
     free(indexes);

@@ -15,6 +15,7 @@ enum { PIXEL = 4, MOST_LAYERS = 8 };
 struct scene {
     uint32_t width, height, frame;
     uint8_t ground[3];
+    int bits; /* of a glyph pixel */
     int layers;
     struct layer layer[MOST_LAYERS];
     uint8_t alpha[MOST_LAYERS];   /* with global alpha: what the fade gives at the frame */
@@ -22,7 +23,7 @@ struct scene {
     uint8_t *pictures;
     size_t pictures_length;
     uint8_t image[SPOONWING_IMAGE_LENGTH];
-    uint8_t tables[SPOONWING_TABLES_LENGTH];
+    uint8_t tables[SPOONWING_SOFT_TABLES_LENGTH]; /* as many as the bits ask for are lent */
 };
 
 /* The alphas of a picture's pixels. With one for the layer the pixels' own are random and do not
@@ -30,7 +31,7 @@ struct scene {
 enum look { RANDOM_ALPHA, OPAQUE, ONE_ALPHA };
 
 /* A screen covered by pictures of random channels, the same bytes in every run. Lists may be added,
- * and then it is to be sealed. */
+ * of one bit a glyph pixel unless `bits` is set before, and then it is to be sealed. */
 struct scene *new_scene(uint32_t width, uint32_t height, int pictures, enum look look);
 
 /* A graphics layer on top of the others, all but its depth given, and its bank. */
@@ -45,6 +46,7 @@ void drop_scene(struct scene *scene);
 const uint8_t *bank_of(const struct scene *scene, int layer);
 
 size_t frame_length(const struct scene *scene);
+size_t tables_length(const struct scene *scene);
 
 /* Memory that begins a page, so that no painter is favoured by where its buffers lie; the program
  * ends where there is none. */

@@ -8,7 +8,7 @@ static void paint(const struct scene *scene, uint8_t *output, void *prepared)
 {
     (void)prepared;
     uint32_t answer = spoonwing_frame(scene->image, sizeof scene->image, scene->frame,
-                                      scene->tables, sizeof scene->tables,
+                                      scene->tables, tables_length(scene),
                                       scene->pictures, scene->pictures_length,
                                       output, frame_length(scene));
     if (answer != SPOONWING_DONE) {

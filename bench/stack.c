@@ -8,6 +8,7 @@
 
 #include "report.h"
 #include "subjects.h"
+#include "text.h"
 
 enum { STACK_LENGTH = 1 << 20, PATTERN = 0xA5, WANTED = 64 };
 
@@ -46,16 +47,21 @@ static size_t stack_used(const struct scene *scene, uint8_t *stack)
     return STACK_LENGTH - untouched(stack);
 }
 
+/* The greater of two depths: the one so far, and that of painting a scene, which is dropped. */
+static size_t deeper(size_t most, struct scene *scene, uint8_t *stack)
+{
+    size_t used = stack_used(scene, stack);
+    drop_scene(scene);
+    return used > most ? used : most;
+}
+
 void print_stack(void)
 {
     uint8_t *stack = room(STACK_LENGTH);
     size_t most = 0;
-    for (int i = 0; i < SUBJECTS; i++) {
-        struct scene *scene = SUBJECT[i].make(SIZE[0].width, SIZE[0].height);
-        size_t used = stack_used(scene, stack);
-        most = used > most ? used : most;
-        drop_scene(scene);
-    }
+    for (int i = 0; i < SUBJECTS; i++)
+        most = deeper(most, SUBJECT[i].make(SIZE[0].width, SIZE[0].height), stack);
+    most = deeper(most, text_scene(&TEXT_RUN[TWO_BITS], SCALE_1, &SIZE[0]), stack);
     free(stack);
     printf("| Stack that the deepest painting takes, in KiB |\n|---|\n|");
     print_cell((double)most / 1024, WANTED);

@@ -12,7 +12,7 @@
 #include "spoonwing.h"
 #include "tables.h"
 
-enum { WIDTH = WATER_WIDTH, HEIGHT = WATER_HEIGHT };
+enum { WIDTH = WATER_WIDTH, HEIGHT = WATER_HEIGHT, BITS = 1 };
 
 /* Layers by number; the controller of a graphics layer has its number. */
 enum { CAPTION, WATER, LAYERS };
@@ -39,10 +39,12 @@ static void done(uint32_t answer)
 }
 
 /* Puts a table of the caption in one run into bank 1: a fresh display shows bank 0. */
-static void load(uint32_t kind, const uint8_t *run, size_t length)
+static void load(uint32_t kind, const uint8_t *bank)
 {
+    uint32_t begin = table_at(kind, BITS), length = table_at(kind + 1, BITS) - begin;
     done(spoonwing_display_select(state, sizeof state, CAPTION << 3 | kind << 1 | 1));
-    done(spoonwing_display_put_run(state, sizeof state, tables, sizeof tables, run, length, &item));
+    done(spoonwing_display_put_run(state, sizeof state, tables, sizeof tables, bank + begin, length,
+                                   &item));
 }
 
 static void load_caption(void)
@@ -50,17 +52,16 @@ static void load_caption(void)
     enum { PANE, FRAME, WORDS };
     static const uint8_t glass[] = {6, 34, 46, 190}, foam[] = {160, 214, 210, 255},
                          cream[] = {255, 244, 222, 255};
-    static const size_t begin[] = {0, COLOURS_AT, STRINGS_AT, FONT_AT, BANK_LENGTH};
-    static uint8_t drawn[BANK_LENGTH];
-    struct bank bank = first_bank(drawn, 0);
+    static uint8_t drawn[BANK_LENGTH(BITS)];
+    struct bank bank = first_bank(drawn, 0, BITS);
     set_colour(&bank, PANE, glass);
     set_colour(&bank, FRAME, foam);
     set_colour(&bank, WORDS, cream);
     draw_box(&bank, 0, 0, SCENE[CAPTION].width, SCENE[CAPTION].height, 2, FRAME);
     draw_text(&bank, 14, 10, SCALE_2, WORDS, "The river at dusk");
     draw_text(&bank, 14, 34, SCALE_1, FRAME, "one state, two banks, two bands");
-    for (uint32_t kind = 0; kind < 4; kind++)
-        load(kind, drawn + begin[kind], begin[kind + 1] - begin[kind]);
+    for (uint32_t kind = 0; kind < KINDS; kind++)
+        load(kind, drawn);
 }
 
 /* One byte more than the font has: it is refused and sets a bit of the error word. */
@@ -106,7 +107,7 @@ int main(int count, char **words)
 {
     const char *folder = inputs_folder(count, words);
     paint_water(pictures);
-    done(spoonwing_display_new(state, sizeof state));
+    done(spoonwing_display_new(state, sizeof state, BITS));
     load_caption();
     put_too_many();
     write_registers();

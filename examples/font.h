@@ -7,7 +7,7 @@
 
 enum { SIDE_BY_SIDE = 8, GLYPH_PITCH = 9 };
 
-static const char *const FONT[GLYPHS / SIDE_BY_SIDE * GLYPH_LENGTH] = {
+static const char *const FONT[GLYPHS / SIDE_BY_SIDE * GLYPH_SIDE] = {
     /* space ! " # $ % & ' */
     "........ ..##.... ##..##.. .##.##.. ..##.... ##...#.. .###.... ..##....",
     "........ ..##.... ##..##.. .##.##.. .#####.. ##..##.. ##.##... ..##....",

@@ -11,7 +11,7 @@
 #include "spoonwing.h"
 #include "tables.h"
 
-enum { WIDTH = 640, HEIGHT = 360, FRAME = 1045 };
+enum { WIDTH = 640, HEIGHT = 360, FRAME = 1045, BITS = 1 };
 
 /* Layers by number. What lies on top goes by depth, so the numbers may be in any order; pictures
  * follow each other in the order of these numbers. */
@@ -60,7 +60,7 @@ static const uint8_t CREAM[] = {255, 244, 222, 255}, AMBER[] = {255, 200, 136, 2
 static void make_title(void)
 {
     enum { NAME = 1, SCENE_NAME, NOTE };
-    struct bank bank = first_bank(tables, TITLE);
+    struct bank bank = first_bank(tables, TITLE, BITS);
     set_colour(&bank, NAME, CREAM);
     set_colour(&bank, SCENE_NAME, AMBER);
     set_colour(&bank, NOTE, MIST);
@@ -75,7 +75,7 @@ static void make_gauge(void)
 {
     enum { PANE, LINE, FIGURES, NOW, BEFORE, BARS = 8 };
     static const uint8_t height[BARS] = {8, 10, 13, 17, 20, 24, 27, 30};
-    struct bank bank = first_bank(tables, GAUGE);
+    struct bank bank = first_bank(tables, GAUGE, BITS);
     set_colour(&bank, PANE, GLASS);
     set_colour(&bank, LINE, FOAM);
     set_colour(&bank, FIGURES, CREAM);
@@ -94,7 +94,7 @@ static void make_gauge(void)
 static void make_caption(void)
 {
     enum { CARD, INK };
-    struct bank bank = first_bank(tables, CAPTION);
+    struct bank bank = first_bank(tables, CAPTION, BITS);
     set_colour(&bank, CARD, CREAM);
     set_colour(&bank, INK, NIGHT);
     draw_box(&bank, 0, 0, SCENE[CAPTION].width, SCENE[CAPTION].height, 2, INK);

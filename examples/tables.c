@@ -3,12 +3,19 @@
 #include <string.h>
 
 #include "font.h"
+#include "soft_font.h"
 #include "spoonwing.h"
 #include "tables.h"
 
-/* The whole buffer is the controllers, one after another: a size below 0 does not compile. */
-enum { CONTROLLERS = 8 };
-typedef char whole_tables[CONTROLLERS * CONTROLLER_LENGTH == SPOONWING_TABLES_LENGTH ? 1 : -1];
+/* The buffer is as long as the header says: a size below 0 does not compile. */
+typedef char whole_tables[TABLES_LENGTH(1) == SPOONWING_TABLES_LENGTH ? 1 : -1];
+typedef char whole_soft_tables[TABLES_LENGTH(2) == SPOONWING_SOFT_TABLES_LENGTH ? 1 : -1];
+
+uint32_t table_at(uint32_t kind, int bits)
+{
+    const uint32_t at[KINDS + 1] = {0, COLOURS_AT, STRINGS_AT, FONT_AT, BANK_LENGTH(bits)};
+    return at[kind];
+}
 
 void put_word(uint8_t *to, uint32_t word)
 {
@@ -21,22 +28,25 @@ uint32_t word_at(const uint8_t *from)
     return from[0] | from[1] << 8 | from[2] << 16 | (uint32_t)from[3] << 24;
 }
 
-/* A row of a glyph: its leftmost pixel is the top bit. */
-static uint8_t glyph_row(const char *drawn)
+/* A line of a glyph as it looks, stored as so many bytes: the leftmost pixel comes to stand in the
+ * top bits of the first, since each pixel moves those before it up. */
+static void put_line(uint8_t *to, const char *drawn, int bits)
 {
-    unsigned row = 0;
-    for (int i = 0; i < 8; i++)
-        row = row << 1 | (drawn[i] == '#');
-    return (uint8_t)row;
+    const char *signs = bits == 1 ? ".#" : ".-+#";
+    for (int i = 0; i < GLYPH_SIDE; i++) {
+        uint8_t *byte = to + i * bits / 8;
+        *byte = (uint8_t)(*byte << bits | (strchr(signs, drawn[i]) - signs));
+    }
 }
 
-struct bank first_bank(uint8_t *tables, int controller)
+struct bank first_bank(uint8_t *tables, int controller, int bits)
 {
-    struct bank bank = {tables + CONTROLLER_LENGTH * controller, 0, 0};
-    for (int i = 0; i < GLYPHS * GLYPH_LENGTH; i++) {
-        int glyph = i / GLYPH_LENGTH, row = i % GLYPH_LENGTH;
-        const char *drawn = FONT[glyph / SIDE_BY_SIDE * GLYPH_LENGTH + row];
-        bank.bytes[FONT_AT + i] = glyph_row(drawn + glyph % SIDE_BY_SIDE * GLYPH_PITCH);
+    const char *const *face = bits == 1 ? FONT : SOFT_FONT;
+    struct bank bank = {tables + CONTROLLER_LENGTH(bits) * controller, 0, 0};
+    for (int i = 0; i < GLYPHS * GLYPH_SIDE; i++) {
+        int glyph = i / GLYPH_SIDE, line = i % GLYPH_SIDE;
+        const char *drawn = face[glyph / SIDE_BY_SIDE * GLYPH_SIDE + line];
+        put_line(bank.bytes + FONT_AT + bits * i, drawn + glyph % SIDE_BY_SIDE * GLYPH_PITCH, bits);
     }
     return bank;
 }

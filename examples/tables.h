@@ -13,17 +13,24 @@ enum {
     STRINGS = 8,
     STRING_LENGTH = 32,
     GLYPHS = 96,
-    GLYPH_LENGTH = 8
+    GLYPH_SIDE = 8 /* pixels across, and lines */
 };
 
-/* Where a table begins in its bank; how long a bank is, and a controller with its two banks. */
+/* Where a table begins in its bank. */
 enum {
     COLOURS_AT = INSTRUCTIONS * INSTRUCTION_LENGTH,    /* 768 */
     STRINGS_AT = COLOURS_AT + COLOURS * COLOUR_LENGTH, /* 832 */
-    FONT_AT = STRINGS_AT + STRINGS * STRING_LENGTH,    /* 1,088 */
-    BANK_LENGTH = FONT_AT + GLYPHS * GLYPH_LENGTH,     /* 1,856 */
-    CONTROLLER_LENGTH = 2 * BANK_LENGTH                /* 3,712 */
+    FONT_AT = STRINGS_AT + STRINGS * STRING_LENGTH     /* 1,088 */
 };
+
+/* How long a glyph, a font, a bank, a controller with its two banks and the buffer are, by the bits
+ * that a glyph pixel has, 1 or 2: a line of a glyph is so many bytes. */
+enum { CONTROLLERS = 8 };
+#define GLYPH_LENGTH(bits) (GLYPH_SIDE * (bits))                    /* 8 or 16 */
+#define FONT_LENGTH(bits) (GLYPHS * GLYPH_LENGTH(bits))             /* 768 or 1,536 */
+#define BANK_LENGTH(bits) (FONT_AT + FONT_LENGTH(bits))             /* 1,856 or 2,624 */
+#define CONTROLLER_LENGTH(bits) (2 * BANK_LENGTH(bits))             /* 3,712 or 5,248 */
+#define TABLES_LENGTH(bits) (CONTROLLERS * CONTROLLER_LENGTH(bits)) /* 29,696 or 41,984 */
 
 enum opcode { END = 0, BOX = 10, TEXT = 12, BOX_AND_TEXT = 14 };
 
@@ -40,9 +47,13 @@ enum scale { SCALE_1, SCALE_2, SCALE_4, SCALE_8 };
 void put_word(uint8_t *to, uint32_t word);
 uint32_t word_at(const uint8_t *from);
 
-/* Bank 0 of a controller, with the font in it. The tables are all zero at first, so the list ends
- * after the last instruction put (0 is END) and a string after its last character. */
-struct bank first_bank(uint8_t *tables, int controller);
+/* Where a kind's table begins in its bank; with KINDS, where the bank ends. */
+enum { KINDS = 4 };
+uint32_t table_at(uint32_t kind, int bits);
+
+/* Bank 0 of a controller, with a font of so many bits in it. The tables are all zero at first, so
+ * the list ends after the last instruction put (0 is END) and a string after its last character. */
+struct bank first_bank(uint8_t *tables, int controller, int bits);
 
 /* Colour 0 is what every pixel of the layer begins with. */
 void set_colour(struct bank *bank, int index, const uint8_t colour[COLOUR_LENGTH]);

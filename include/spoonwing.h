@@ -1,9 +1,11 @@
-/* Spoonwing for C hosts, in three parts:
+/* Spoonwing for C hosts, in four parts:
  *
+ *   tables                     lists, colours, strings and fonts as they are lent, with one bit a
+ *                              glyph pixel or with two
  *   a frame without a state    spoonwing_frame: register image in, frame out
  *   keeping a display          spoonwing_display_...: make it, write registers, load tables, start
  *                              frames, paint, read
- *   storing a state            the 436 bytes that a kept display is
+ *   storing a state            the 440 bytes that a kept display is
  *
  * Link with libspoonwing.a (`tools/install PREFIX` puts it, this header and a file for pkg-config
  * in place). It is code for x86-64 and needs nothing beside it but memcpy and memset of the C
@@ -30,15 +32,16 @@ extern "C" {
 
 /* The lengths that are fixed, in bytes. */
 #define SPOONWING_IMAGE_LENGTH 208u
-#define SPOONWING_TABLES_LENGTH 29696u
-#define SPOONWING_STATE_LEN 436u
+#define SPOONWING_TABLES_LENGTH 29696u      /* with one bit a glyph pixel */
+#define SPOONWING_SOFT_TABLES_LENGTH 41984u /* with two */
+#define SPOONWING_STATE_LEN 440u
 
 /* ---- answers
  *
  * Which call answers which, refusals in the order in which they are asked:
  *
  *   spoonwing_frame     16, 7, 8, 9 and 10, 11, 13, 6, 14
- *   display_new         23
+ *   display_new         23, 17
  *   display_write       23, 1
  *   display_write_run   23, 1
  *   display_select      23, 2
@@ -59,7 +62,7 @@ enum spoonwing_answer {
     SPOONWING_NOT_SELECTED = 3,          /* nothing is selected */
     SPOONWING_BANK_ACTIVE = 4,           /* the selected bank is an active one */
     SPOONWING_BANK_FULL = 5,             /* the selected table is full */
-    SPOONWING_BAD_TABLES_LENGTH = 6,     /* the tables are not 29,696 bytes */
+    SPOONWING_BAD_TABLES_LENGTH = 6,     /* the tables are not 29,696 bytes, for two bits 41,984 */
     SPOONWING_RESERVED_BIT = 7,          /* a reserved bit is set in a word */
     SPOONWING_EMPTY_SCREEN = 8,          /* the output has no width or no height */
     SPOONWING_EMPTY_LAYER = 9,           /* an enabled layer has no width or no height */
@@ -70,7 +73,8 @@ enum spoonwing_answer {
     SPOONWING_BAD_PICTURES_LENGTH = 14,  /* the pictures have the wrong total length */
     SPOONWING_NO_BAND = 15,              /* the low end is above the high one, or that above 8 */
     SPOONWING_BAD_IMAGE_LENGTH = 16,     /* the register image is not 208 bytes */
-    SPOONWING_BAD_STATE_LENGTH = 23      /* the state is not 436 bytes */
+    SPOONWING_BAD_GLYPH_BITS = 17,       /* a glyph pixel has neither 1 nor 2 bits */
+    SPOONWING_BAD_STATE_LENGTH = 23      /* the state is not 440 bytes */
 };
 
 /* What is wrong and what to do, for an answer; a number that no call answers has a text too. */
@@ -83,7 +87,7 @@ static inline const char *spoonwing_refusal(uint32_t answer)
     case SPOONWING_NOT_SELECTED: return "no table is selected: select one before the first put";
     case SPOONWING_BANK_ACTIVE: return "the bank is being shown: load the other one, then start";
     case SPOONWING_BANK_FULL: return "the table is full: put no more, or select it anew";
-    case SPOONWING_BAD_TABLES_LENGTH: return "wrong tables: lend all 29,696 bytes";
+    case SPOONWING_BAD_TABLES_LENGTH: return "wrong tables: lend 29,696 bytes, for two bits 41,984";
     case SPOONWING_RESERVED_BIT: return "a reserved bit is set: clear all bits without a meaning";
     case SPOONWING_EMPTY_SCREEN: return "the screen is empty: give register 1 a width and a height";
     case SPOONWING_EMPTY_LAYER: return "a layer is empty: give it a size, or disable it";
@@ -94,10 +98,38 @@ static inline const char *spoonwing_refusal(uint32_t answer)
     case SPOONWING_BAD_PICTURES_LENGTH: return "wrong pictures: lend all enabled frame layers'";
     case SPOONWING_NO_BAND: return "no such band: paint from low to high with low <= high <= 8";
     case SPOONWING_BAD_IMAGE_LENGTH: return "wrong register image: lend 208 bytes";
-    case SPOONWING_BAD_STATE_LENGTH: return "wrong state: lend 436 bytes";
+    case SPOONWING_BAD_GLYPH_BITS: return "wrong bits a glyph pixel: make the state with 1 or 2";
+    case SPOONWING_BAD_STATE_LENGTH: return "wrong state: lend 440 bytes";
     default: return "unknown: no call answers this number";
     }
 }
+
+/* ---- tables
+ *
+ * A table buffer has a controller for each layer, and a controller has two banks of four
+ * tables. How many bits a glyph pixel has, one or two, is chosen for the whole buffer:
+ *
+ *                       one bit    two bits
+ *   the buffer           29,696      41,984   bytes
+ *   controller g at     3,712 g     5,248 g
+ *   its bank b at      +1,856 b    +2,624 b   and in the bank
+ *     instructions at         0           0   48 of 16 bytes
+ *     colours at            768         768   16 of 4 bytes: channel 0, 1, 2, alpha
+ *     strings at            832         832   8 of 32 bytes
+ *     the font at         1,088       1,088   96 glyphs, the first that of character 32
+ *       a glyph               8          16   bytes, 8 lines
+ *       a line                1           2   bytes, 8 pixels, the leftmost in the first's top bits
+ *
+ * With one bit a 1 gives the text colour and a 0 leaves the pixel. With two a pixel's value is 0 to
+ * 3. 0 leaves the pixel; in text of colour c the values 1, 2 and 3 give the colours c, c + 1 and
+ * c + 2, modulo 16, so a palette has three shades of an ink there, the full one last. A line with
+ * the values
+ *
+ *    0  1  3  3  2  0  0  0    is the bits
+ *   00 01 11 11 10 00 00 00    and the bytes 1F 80.
+ *
+ * examples/tables.h has these numbers by name, examples/soft_font.h is a font of two bits, and
+ * examples/letters.c shows a caption in it beside the same one in a font of one bit. */
 
 /* ---- a frame without a state */
 
@@ -107,8 +139,7 @@ static inline const char *spoonwing_refusal(uint32_t answer)
  *           the check of a start, whether its update bit is set or not. With the display bit clear
  *           the frame is background.
  * frame     the frame number that fades go by, used as given.
- * tables    29,696 bytes: controller g at 3,712 g, its bank b at +1,856 b, in it instructions at 0,
- *           colours at 768, strings at 832, the font at 1,088 (by name: examples/tables.h).
+ * tables    29,696 bytes, or 41,984: the length says how many bits a glyph pixel has.
  * pictures  the pictures of the enabled frame layers in rising layer number, each
  *           4 * width * height bytes in raster order, without gaps.
  * output    4 * width * height bytes, a pixel being channel 0, 1, 2, alpha. What it held does not
@@ -124,17 +155,19 @@ uint32_t spoonwing_frame(const uint8_t *image, size_t image_length,
 
 /* ---- keeping a display
  *
- * A display is a state of 436 bytes that the host owns and lends to each call, beside tables of
- * 29,696 bytes. examples/caption.c is a host that keeps one.
+ * A display is a state of 440 bytes that the host owns and lends to each call, beside its tables. A
+ * state is made for one bit a glyph pixel or for two, and takes tables of that length alone.
+ * examples/caption.c is a host that keeps one display, and examples/letters.c keeps two.
  *
  * Registers are written at any time and wait as pending ones; a start whose pending update bit is
  * set makes them the active ones, all at once, and painting goes by those. Tables have two banks of
  * each kind. Painting reads the active ones and puts go to the others; register 3 says which are
  * active, so a start also turns banks over.
  *
- * A state of another length than 436 answers 23, and everything is unchanged. Other refusals leave
+ * A state of another length than 440 answers 23, and everything is unchanged. Other refusals leave
  * every buffer and every part of the state as it was, but for these: a refused start has stepped
- * the frame number, and a put to a full table has set an error bit.
+ * the frame number, a put to a full table has set an error bit, and a state that is made with a
+ * wrong number of bits is a fresh one of one bit.
  *
  * A run is the single call made with each item in order. It stops after the first refusal, with
  * that one's effects; what the items before it did stays. `done` becomes how many those are: the
@@ -142,8 +175,12 @@ uint32_t spoonwing_frame(const uint8_t *image, size_t image_length,
  * empty run answers 0 and changes nothing, even with tables of a wrong length. */
 
 /* Makes the state a fresh one, whatever it held: all registers and numbers 0, nothing selected.
- * 436 zero bytes are a fresh state too. */
-uint32_t spoonwing_display_new(uint8_t *state, size_t state_length);
+ *
+ * bits    how many bits a glyph pixel has, 1 or 2, for as long as the state is kept. Any other
+ *         number is refused with 17, and the state is a fresh one of one bit.
+ *
+ * 440 zero bytes are a fresh state of one bit too. */
+uint32_t spoonwing_display_new(uint8_t *state, size_t state_length, uint32_t bits);
 
 /* Writes a pending register, all 32 bits. What is wrong in a value is told by the start.
  *
@@ -178,8 +215,8 @@ uint32_t spoonwing_display_select(uint8_t *state, size_t state_length, uint32_t 
 uint32_t spoonwing_display_put(uint8_t *state, size_t state_length,
                                uint8_t *tables, size_t tables_length, uint8_t byte);
 
-/* Puts a run of bytes, each an item, from the place on: 768 are a font. With 5 those before the
- * table's end are stored, and the error bit is set. */
+/* Puts a run of bytes, each an item, from the place on: 768 are a font of one bit, 1,536 are one of
+ * two. With 5 those before the table's end are stored, and the error bit is set. */
 uint32_t spoonwing_display_put_run(uint8_t *state, size_t state_length,
                                    uint8_t *tables, size_t tables_length,
                                    const uint8_t *run, size_t run_length, size_t *done);
@@ -194,9 +231,10 @@ uint32_t spoonwing_display_fill(uint8_t *state, size_t state_length,
                                 uint8_t *output, size_t output_length);
 
 /* Blends the enabled layers whose depth is at least `low` and below `high`, in rising depth, over
- * what the output holds; its alpha bytes stay. Tables and pictures are those of spoonwing_frame,
- * the pictures of all enabled frame layers whatever the band. A graphics layer n of the band whose
- * list has no END sets error bit 4n. With the display off a band changes nothing. */
+ * what the output holds; its alpha bytes stay. Tables are of the length that the state's bits ask
+ * for. Pictures are those of spoonwing_frame, of all enabled frame layers whatever the band. A
+ * graphics layer n of the band whose list has no END sets error bit 4n. With the display off a band
+ * changes nothing. */
 uint32_t spoonwing_display_paint(uint8_t *state, size_t state_length,
                                  uint32_t low, uint32_t high,
                                  const uint8_t *tables, size_t tables_length,
@@ -216,7 +254,7 @@ uint32_t spoonwing_display_toggle(uint8_t *state, size_t state_length, uint32_t 
 /* Reads. In the error word bit 4n says that a list of layer n without END was painted, and bit
  * 4g + 1 that a table of controller g was full at a put; bits stay until they are toggled. The size
  * is that of the active registers, and 0 before the first start that passes. Of a state that is not
- * 436 bytes each read gives 0. */
+ * 440 bytes each read gives 0. */
 uint32_t spoonwing_display_error_word(const uint8_t *state, size_t state_length);
 uint32_t spoonwing_display_frame_number(const uint8_t *state, size_t state_length);
 uint32_t spoonwing_display_output_width(const uint8_t *state, size_t state_length);
@@ -225,7 +263,7 @@ uint32_t spoonwing_display_output_height(const uint8_t *state, size_t state_leng
 /* ---- storing a state
  *
  * The bytes are all that a state is: they may be copied, compared, kept in a file and lent again on
- * another machine. They are 109 little-endian words of 32 bits:
+ * another machine. They are 110 little-endian words of 32 bits:
  *
  *     0   pending registers 0 to 51
  *   208   active registers 0 to 51
@@ -234,11 +272,12 @@ uint32_t spoonwing_display_output_height(const uint8_t *state, size_t state_leng
  *   424   0 where nothing is selected; else something is
  *   428   selection
  *   432   place
+ *   436   bit 0 set: two bits a glyph pixel, clear: one; its other bits count for nothing
  *
- * Any 436 bytes stand for some state, and every call is safe on them, also where no call would have
+ * Any 440 bytes stand for some state, and every call is safe on them, also where no call would have
  * made them: a layer is painted where it lies on the screen, and of layers of one depth the one of
- * greater number lies on top. A call writes 0 or 1 at 424, also when it is refused or its run is
- * empty. */
+ * greater number lies on top. A call writes 0 or 1 at 424 and at 436, also when it is refused or
+ * its run is empty. */
 
 #ifdef __cplusplus
 }

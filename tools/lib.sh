@@ -68,6 +68,22 @@ link_host() {
     "$cc" $c_flags -I "$top/include" -o "$1" "${@:2}" "$archive"
 }
 
+# paint_installed NAME PREFIX OUT.png SOURCE..: builds examples/NAME.c with other sources of that
+# folder and with what `tools/install PREFIX` has put in place, and has it paint. What its calls were
+# given and what they left stays in target/NAME/ for the tests.
+paint_installed() {
+    local cc flags work=$top/target/$1 sources=("$1.c" "${@:4}")
+    need pkg-config pkg-config
+    need pnmtopng netpbm
+    cc=$(compiler)
+    mkdir -p "$work"
+    flags=$(PKG_CONFIG_PATH=$2/lib/pkgconfig pkg-config --cflags --libs spoonwing)
+    "$cc" $c_flags -o "$work/$1" "${sources[@]/#/$top/examples/}" $flags
+    (become "$work/$1" --inputs "$work") >"$work/$1.ppm"
+    pnmtopng -quiet -compression 9 "$work/$1.ppm" >"$3"
+    echo "The picture is $3"
+}
+
 # c_program NAME [build]: builds tests/second/NAME.c, or runs what was built in place of this shell.
 c_program() {
     local program=$top/target/$1

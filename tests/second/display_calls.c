@@ -107,7 +107,7 @@ static uint32_t call(const uint32_t *n, const struct lent *lent, uint8_t *const 
     size_t pictures_length = lent[PICTURES].length, out_length = lent[OUTPUT].length;
     size_t run_length = lent[RUN].length, *done = (size_t *)at[COUNT];
     switch (n[DOOR]) {
-    case NEW: return spoonwing_display_new(state, length);
+    case NEW: return spoonwing_display_new(state, length, n[FIRST]);
     case WRITE: return spoonwing_display_write(state, length, n[FIRST], n[SECOND]);
     case SELECT: return spoonwing_display_select(state, length, n[FIRST]);
     case TOGGLE: return spoonwing_display_toggle(state, length, n[FIRST]);

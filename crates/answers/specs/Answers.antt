@@ -1,4 +1,4 @@
--- 01 "Answers by number", row for row: the number, and when it is given. Assumes nothing.
+-- 01 "Answers by number", row for row: the number, and when it is given; and those of 02. Assumes nothing.
 use Prim.Native.Nat.{ℕ}
 
 -- "done"
@@ -25,7 +25,7 @@ bankActive = 4
 abbrev pub bankFull : ℕ
 bankFull = 5
 
--- "put, paint: tables not 29,696 bytes"
+-- "put, paint: tables not 29,696 bytes"; 02 K2: "6 compares with the chosen length, in the host entry with both."
 abbrev pub tablesLength : ℕ
 tablesLength = 6
 
@@ -69,6 +69,10 @@ noBand = 15
 abbrev pub imageLength : ℕ
 imageLength = 16
 
--- 23, past the numbers of 01 and 02: a door's lent state not 436 bytes
+-- 02 K2: "17 for a bit number other than 1 or 2 when making a state"
+abbrev pub glyphBits : ℕ
+glyphBits = 17
+
+-- 23, past the numbers of 01 and 02: a door's lent state not 440 bytes
 abbrev pub stateLength : ℕ
 stateLength = 23

@@ -1,5 +1,5 @@
-// The numbers that calls answer, by name: 01 "Answers by number". A refusal leaves what its row
-// there says.
+// The numbers that calls answer, by name: 01 "Answers by number", and those of 02. A refusal leaves what
+// its row there says.
 ghost use mathlib.Core.Path.{_≡_};
 ghost use Rattle.lists.specs.Choice.{orElse};
 
@@ -21,7 +21,7 @@ pub const BANK_ACTIVE: u8 = 4;
 // Put: the place is at the kind's end.
 pub const BANK_FULL: u8 = 5;
 
-// Put, paint: the tables are not 29,696 bytes.
+// Put, paint: the tables are not as long as the state's bits a glyph pixel ask.
 pub const TABLES_LENGTH: u8 = 6;
 
 // Start: a reserved bit is set.
@@ -54,7 +54,10 @@ pub const NO_BAND: u8 = 15;
 // Host entry: the register image is not 208 bytes.
 pub const IMAGE_LENGTH: u8 = 16;
 
-// Doors: the lent state is not 436 bytes. A number of our own, past those of 02.
+// Making a state: the bits a glyph pixel are neither 1 nor 2.
+pub const GLYPH_BITS: u8 = 17;
+
+// Doors: the lent state is not 440 bytes. A number of our own, past those of 02.
 pub const STATE_LENGTH: u8 = 23;
 
 // Of two refusals the earlier.

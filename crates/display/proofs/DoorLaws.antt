@@ -2,11 +2,11 @@
 use mathlib.Core.Path.{_≡_, refl, sym, ap, _∙_}
 use mathlib.Core.Bool.{Bool}
 use mathlib.Core.List.{List, [], _∷_, _++_}
-use Prim.Native.Nat.{ℕ, _+_, _*_, _<_}
+use Prim.Native.Nat.{ℕ, _+_, _*_, _%_, _<_}
 use native.Mathlib.Omega.{arith}
 use borrow.Rule.Slice.PartMut.{putMid}
 use borrow.Author.Tests.{eq-eqb, ne-eqb}
-use lib.Dec.{ltb}
+use lib.Dec.{ltb, eqb}
 use lib.ListN.{length, getD, List·getD-append}
 use lib.Seq.{getD-append-add}
 use Rattle.lists.specs.Choice.{pick}
@@ -16,6 +16,7 @@ use Rattle.lists.specs.Tab.{tab}
 use Rattle.lists.proofs.Upto.{upto-none}
 use Rattle.lists.proofs.Little.{words-turn, words-bytes}
 use Rattle.answers.specs.Answers.{stateLength}
+use Rattle.profiles.specs.Profile.{profileOf}
 use Rattle.words.specs.Image.{wordsFrom}
 use Rattle.display.specs.declared.Display.{Display}
 use Rattle.display.specs.declared.Told.{Told}
@@ -25,12 +26,13 @@ use Rattle.display.specs.Doors.{doorBuffer, doorRead}
 
 -- ---- out of bytes
 
-pub taken-all : (s pending active : List ℕ) (frame errors word number place : ℕ) → pending ≡ wordsFrom s 0
+pub taken-all : (s pending active : List ℕ) (frame errors word number place chosen : ℕ) → pending ≡ wordsFrom s 0
     → active ≡ wordsFrom s 208 → frame ≡ littleAt s 416 → errors ≡ littleAt s 420 → word ≡ littleAt s 424
-    → number ≡ littleAt s 428 → place ≡ littleAt s 432
-    → display pending active frame errors (selectionOf (ltb 0 word) number place) ≡ takenOf s
+    → number ≡ littleAt s 428 → place ≡ littleAt s 432 → chosen ≡ littleAt s 436
+    → display pending active frame errors (selectionOf (ltb 0 word) number place) (profileOf (eqb (chosen % 2) 1))
+    ≡ takenOf s
 unfolding takenOf
-taken-all s pending active frame errors word number place p a f e m n o = rw (p, a, f, e, m, n, o)
+taken-all s pending active frame errors word number place chosen p a f e m n o c = rw (p, a, f, e, m, n, o, c)
 
 -- ---- the words of a state, by their number
 
@@ -58,22 +60,22 @@ module _ (d : Display) (p : length (d .pending) ≡ 52) where
 
 -- ---- put back, part by part
 
-pub state-bytes : (d : Display) (l p₁ p₂ p₃ : List ℕ) (made : ℕ) → length (d .pending) ≡ 52 → length (d .active) ≡ 52
-    → length l ≡ stateLen → made ≡ pick (d .selection .made) 1 0
+pub state-bytes : (d : Display) (l p₁ p₂ p₃ : List ℕ) (made soft : ℕ) → length (d .pending) ≡ 52 → length (d .active) ≡ 52
+    → length l ≡ stateLen → made ≡ pick (d .selection .made) 1 0 → soft ≡ pick (d .profile .soft) 1 0
     → p₁ ≡ tab (4 * length (d .pending)) (littleBytes (d .pending))
     → p₂ ≡ tab (4 * length (d .active)) (littleBytes (d .active))
-    → p₃ ≡ tab 20 (littleBytes (d .frame ∷ d .errors ∷ made ∷ d .selection .number ∷ d .selection .place ∷ []))
-    → putMid 416 20 (putMid 208 208 (putMid 0 208 l p₁) p₂) p₃ ≡ stateBytes d
+    → p₃ ≡ tab 24 (littleBytes (d .frame ∷ d .errors ∷ made ∷ d .selection .number ∷ d .selection .place ∷ soft ∷ []))
+    → putMid 416 24 (putMid 208 208 (putMid 0 208 l p₁) p₂) p₃ ≡ stateBytes d
 unfolding stateBytes lastWords
-state-bytes d l p₁ p₂ p₃ made p a long e e₁ e₂ e₃ =
+state-bytes d l p₁ p₂ p₃ made soft p a long e f e₁ e₂ e₃ =
     let w = stateWords d in
     let u₁ = words-turn {l = l} {l₀ = l} w (d .pending) p₁ 0 0 208 208 52 refl refl refl (omega arith)
     (λ i h. in-pending d p i h ∙ ap (λ (n : ℕ). getD w n 0) (let q : i ≡ 0 + i = omega arith in q))
     (upto-none l (littleBytes w)) (rw p at e₁) in
     let u₂ = words-turn w (d .active) p₂ 208 52 416 208 52 refl refl refl (omega arith) (in-active d p a) u₁
     (rw a at e₂) in
-    let u₃ = words-turn w (lastWords d) p₃ 416 104 436 20 5 refl refl refl (omega arith) (λ i h. in-last d p a i) u₂
-    (rw e at e₃) in
+    let u₃ = words-turn w (lastWords d) p₃ 416 104 440 24 6 refl refl refl (omega arith) (λ i h. in-last d p a i) u₂
+    (rw (e, f) at e₃) in
     words-bytes w stateLen long (omega arith) u₃
 
 -- ---- the cases of a door

@@ -10,15 +10,15 @@ use Rattle.answers.specs.Answers.{done, notSelected, bankActive, bankFull, tabl
 use Rattle.tables.specs.Geometry.{tablesLen}
 use Rattle.tables.specs.Selection.{controllerOf, endOf, firstByteOf, namedBy}
 use Rattle.display.specs.declared.Display.{Display}
-use Rattle.display.specs.State.{told, withErrors, withPlace}
+use Rattle.display.specs.State.{bitsIn, told, withErrors, withPlace}
 use Rattle.display.specs.Put.{putAnswer, putState, putOf, putTables}
 
 module _ (d : Display) (tables : List ℕ) where
-  pub answer-length : (length tables ≡ tablesLen → ⊥) → putAnswer d tables ≡ tablesLength
+  pub answer-length : (length tables ≡ tablesLen (bitsIn d) → ⊥) → putAnswer d tables ≡ tablesLength
   unfolding putAnswer
   answer-length ne = rw (ne-eqb _ _ ne)
 
-  module _ (long : length tables ≡ tablesLen) where
+  module _ (long : length tables ≡ tablesLen (bitsIn d)) where
     pub answer-none : d .selection .made ≡ false → putAnswer d tables ≡ notSelected
     unfolding putAnswer
     answer-none s = rw (eq-eqb _ _ long, s)
@@ -29,19 +29,19 @@ module _ (d : Display) (tables : List ℕ) where
       answer-active n = rw (eq-eqb _ _ long, s, n)
 
       pub answer-done : namedBy (d .active) (d .selection .number) ≡ false
-          → d .selection .place < endOf (d .selection .number) → putAnswer d tables ≡ done
+          → d .selection .place < endOf (bitsIn d) (d .selection .number) → putAnswer d tables ≡ done
       unfolding putAnswer
       answer-done n p = rw (eq-eqb _ _ long, s, n, lt-ltb _ _ p)
 
       pub answer-full : namedBy (d .active) (d .selection .number) ≡ false
-          → endOf (d .selection .number) ≤ d .selection .place → putAnswer d tables ≡ bankFull
+          → endOf (bitsIn d) (d .selection .number) ≤ d .selection .place → putAnswer d tables ≡ bankFull
       unfolding putAnswer
       answer-full n p = rw (eq-eqb _ _ long, s, n, le-ltb _ _ p)
 
   -- what each answer leaves
   pub put-done : (byte : ℕ) → putAnswer d tables ≡ done
       → (told (withPlace d (d .selection .place + 1)) done ≡ putOf d tables)
-      × (set tables (firstByteOf (d .selection .number) + d .selection .place) byte ≡ putTables d tables byte)
+      × (set tables (firstByteOf (bitsIn d) (d .selection .number) + d .selection .place) byte ≡ putTables d tables byte)
   unfolding putOf putState putTables
   put-done byte e = (rw e, rw e)
 

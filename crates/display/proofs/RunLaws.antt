@@ -25,7 +25,7 @@ use Rattle.loads.proofs.LoadLaws.{stored-none, load-empty, load-refused, load-f
 use Rattle.display.specs.declared.Display.{Display}
 use Rattle.display.specs.declared.Told.{Told}
 use Rattle.display.specs.declared.Ran.{Ran}
-use Rattle.display.specs.State.{told, withErrors, withPlace, withPending, writeOf}
+use Rattle.display.specs.State.{bitsIn, told, withErrors, withPlace, withPending, writeOf}
 use Rattle.display.specs.Put.{putAnswer, putState, putOf, putTables}
 use Rattle.display.specs.Runs.{ran, toldBy, Lent, lent, putOne, puts, putRunOf, putRunTables, writeOne, writes}
 use Rattle.display.specs.Runs.{writeRunOf}
@@ -53,18 +53,18 @@ three-other false b c e = omega arith
 
 module _ (d : Display) (tables : List ℕ) where
   abbrev refusal : ℕ
-  refusal = refusalOf (d .active) (d .selection .made) (d .selection .number) (length tables)
+  refusal = refusalOf (bitsIn d) (d .active) (d .selection .made) (d .selection .number) (length tables)
 
   answer-is : putAnswer d tables
-      ≡ orElse refusal (pick (ltb (d .selection .place) (endOf (d .selection .number))) done bankFull)
+      ≡ orElse refusal (pick (ltb (d .selection .place) (endOf (bitsIn d) (d .selection .number))) done bankFull)
   unfolding putAnswer refusalOf
   answer-is =
-      three-last (eqb (length tables) tablesLen) (d .selection .made) (namedBy (d .active) (d .selection .number)) _
+      three-last (eqb (length tables) (tablesLen (bitsIn d))) (d .selection .made) (namedBy (d .active) (d .selection .number)) _
 
   refusal-other : refusal ≡ bankFull → ⊥
   unfolding refusalOf
   refusal-other =
-      three-other (eqb (length tables) tablesLen) (d .selection .made) (namedBy (d .active) (d .selection .number))
+      three-other (eqb (length tables) (tablesLen (bitsIn d))) (d .selection .made) (namedBy (d .active) (d .selection .number))
 
   -- refused whatever the place, a put changes nothing
   one-refused : (byte : ℕ) → (refusal ≡ done → ⊥) → putOne (lent d tables) byte ≡ one (lent d tables) refusal
@@ -74,16 +74,16 @@ module _ (d : Display) (tables : List ℕ) where
       rw (e, ne-eqb _ _ ne, ne-eqb _ _ refusal-other)
 
   module _ (byte : ℕ) (passes : refusal ≡ done) where
-    one-full : endOf (d .selection .number) ≤ d .selection .place → putOne (lent d tables) byte
+    one-full : endOf (bitsIn d) (d .selection .number) ≤ d .selection .place → putOne (lent d tables) byte
         ≡ one (lent (withErrors d (bitOr (d .errors) (2 ^ (4 * controllerOf (d .selection .number) + 1)))) tables)
         bankFull
     one-full h =
         let e = put-full d tables byte _ (answer-is ∙ rw (passes, le-ltb _ _ h)) refl in
         sym (ap₂ (λ (t : Told) (l : List ℕ). one (lent (t .state) l) (t .answer)) (e .0) (e .1))
 
-    one-done : d .selection .place < endOf (d .selection .number) → putOne (lent d tables) byte
+    one-done : d .selection .place < endOf (bitsIn d) (d .selection .number) → putOne (lent d tables) byte
         ≡ one (lent (withPlace d (d .selection .place + 1))
-        (set tables (firstByteOf (d .selection .number) + d .selection .place) byte)) done
+        (set tables (firstByteOf (bitsIn d) (d .selection .number) + d .selection .place) byte)) done
     one-done h =
         let e = put-done d tables byte (answer-is ∙ rw (passes, lt-ltb _ _ h)) in
         sym (ap₂ (λ (t : Told) (l : List ℕ). one (lent (t .state) l) (t .answer)) (e .0) (e .1))
@@ -95,33 +95,33 @@ abbrev laden : Display → Loaded → List ℕ → Many Lent
 laden d l tables = many (lent (withErrors (withPlace d (l .place)) (l .errors)) tables) (l .answer) (l .done)
 
 abbrev loadFor : Display → List ℕ → ℕ → Loaded
-loadFor d tables n = loadOf (d .active) (d .errors) (d .selection) (length tables) n
+loadFor d tables n = loadOf (bitsIn d) (d .active) (d .errors) (d .selection) (length tables) n
 
 abbrev tablesFor : Display → List ℕ → List ℕ → List ℕ
-tablesFor d tables run = loadTables (d .active) (d .selection) tables run
+tablesFor d tables run = loadTables (bitsIn d) (d .active) (d .selection) tables run
 
 puts-load : (run : List ℕ) (d : Display) (tables : List ℕ)
     → runOf putOne (lent d tables) run ≡ laden d (loadFor d tables (length run)) (tablesFor d tables run)
 puts-load [] d tables =
-    let e = load-empty (d .active) (d .errors) (d .selection) tables [] refl in
+    let e = load-empty (bitsIn d) (d .active) (d .errors) (d .selection) tables [] refl in
     run-none putOne (lent d tables) ∙ ap₂ (laden d) (e .0) (e .1)
 puts-load (byte ∷ run) d tables = ⊎-elim
     (λ (passes : refusal d tables ≡ done). ⊎-elim
-    (λ (h : d .selection .place < endOf (d .selection .number)).
+    (λ (h : d .selection .place < endOf (bitsIn d) (d .selection .number)).
     let c = one-done d tables byte passes h in
     let d′ = withPlace d (d .selection .place + 1) in
-    let t′ = set tables (firstByteOf (d .selection .number) + d .selection .place) byte in
+    let t′ = set tables (firstByteOf (bitsIn d) (d .selection .number) + d .selection .place) byte in
     run-goes putOne (lent d tables) byte run (ap (λ (o : One Lent). o .answer) c)
     ∙ ap (λ (o : One Lent). after 1 (runOf putOne (o .left) run)) c
     ∙ ap (after 1) (puts-load run d′ t′)
     ∙ ap (λ (n : ℕ).
-    after 1 (laden d (loadOf (d .active) (d .errors) (d′ .selection) n (length run)) (tablesFor d′ t′ run)))
+    after 1 (laden d (loadOf (bitsIn d) (d .active) (d .errors) (d′ .selection) n (length run)) (tablesFor d′ t′ run)))
     (length-set tables _ byte)
-    ∙ sym (ap₂ (laden d) (load-step (d .active) (d .errors) (d .selection) tables byte run passes h)
-    (tables-step (d .active) (d .errors) (d .selection) tables byte run passes h)))
-    (λ (h : endOf (d .selection .number) ≤ d .selection .place).
+    ∙ sym (ap₂ (laden d) (load-step (bitsIn d) (d .active) (d .errors) (d .selection) tables byte run passes h)
+    (tables-step (bitsIn d) (d .active) (d .errors) (d .selection) tables byte run passes h)))
+    (λ (h : endOf (bitsIn d) (d .selection .number) ≤ d .selection .place).
     let c = one-full d tables byte passes h in
-    let e = load-full (d .active) (d .errors) (d .selection) tables (byte ∷ run) (λ z. omega arith) done 0 tables
+    let e = load-full (bitsIn d) (d .active) (d .errors) (d .selection) tables (byte ∷ run) (λ z. omega arith) done 0 tables
     (sym passes) refl (omega arith) (sym (stored-none tables _)) _ (λ z. omega arith) refl in
     let p : d .selection .place ≡ d .selection .place + 0 = omega arith in
     let set = bitOr (d .errors) (2 ^ (4 * controllerOf (d .selection .number) + 1)) in
@@ -130,10 +130,10 @@ puts-load (byte ∷ run) d tables = ⊎-elim
     ∙ ap (λ (o : One Lent). many (o .left) (o .answer) 0) c
     ∙ ap (λ (n : ℕ). many (lent (withErrors (withPlace d n) set) tables) bankFull 0) p
     ∙ ap₂ (laden d) (e .0) (e .1))
-    (split (d .selection .place) (endOf (d .selection .number))))
+    (split (d .selection .place) (endOf (bitsIn d) (d .selection .number))))
     (λ (ne : refusal d tables ≡ done → ⊥).
     let c = one-refused d tables byte ne in
-    let e = load-refused (d .active) (d .errors) (d .selection) tables (byte ∷ run) (λ z. omega arith)
+    let e = load-refused (bitsIn d) (d .active) (d .errors) (d .selection) tables (byte ∷ run) (λ z. omega arith)
     (refusal d tables) refl ne in
     run-stops putOne (lent d tables) byte run (λ z. ne (ap (λ (o : One Lent). o .answer) (sym c) ∙ z))
     ∙ ap (λ (o : One Lent). many (o .left) (o .answer) 0) c ∙ ap₂ (laden d) (e .0) (e .1))

@@ -11,6 +11,8 @@ use lib.Dec.{ltb, eqb}
 use lib.ListN.{length, length-set}
 use Rattle.lists.specs.Choice.{pick, choose}
 use Rattle.answers.specs.Answers.{done, notSelected, bankActive, bankFull, tablesLength}
+use Rattle.profiles.specs.declared.Profile.{Profile}
+use Rattle.profiles.specs.Profile.{oneBit, twoBits}
 use Rattle.words.specs.Fields.{updateOf}
 use Rattle.words.specs.Check.{checkOf}
 use Rattle.words.proofs.CheckLaws.{check-accepted}
@@ -19,7 +21,7 @@ use Rattle.tables.specs.Selection.{endOf, namedBy}
 use Rattle.lists.proofs.Choice.{choose-keeps, lets-through, orElse-right}
 use Rattle.display.specs.declared.Display.{Display}
 use Rattle.display.specs.declared.Told.{Told}
-use Rattle.display.specs.State.{fresh, withErrors, stepped, writeOf, selectOf, toggleOf, startOf}
+use Rattle.display.specs.State.{bitsIn, fresh, withErrors, stepped, newOf, writeOf, selectOf, toggleOf, startOf}
 use Rattle.display.specs.Put.{putAnswer, putState, putOf}
 use Rattle.display.specs.Paint.{fillTold, paintTold, frameTold}
 use Rattle.display.specs.Reached.{Reached, by-new, by-write, by-select, by-toggle, by-start, by-put, by-fill}
@@ -28,19 +30,24 @@ use Rattle.display.specs.Reached.{by-paint, by-frame, Sound}
 abbrev SoundTold : Told → Type 0
 SoundTold t = Sound (t .state)
 
-pub fresh-sound : Sound fresh
-fresh-sound =
+pub fresh-sound : (p : Profile) → Sound (fresh p)
+fresh-sound p =
     record { pending = refl; active = refl; accepted = inl refl; selection = omega arith; place = omega arith }
+
+pub new-sound : (bits : ℕ) → Sound (newOf bits .state)
+new-sound bits =
+    choose-keeps SoundTold (eqb bits 1) _ _ (λ _. fresh-sound oneBit)
+    (λ _. choose-keeps SoundTold (eqb bits 2) _ _ (λ _. fresh-sound twoBits) (λ _. fresh-sound oneBit))
 
 -- a byte is stored below the table's end alone
 pub below-end : (d : Display) (tables : List ℕ) → putAnswer d tables ≡ done
-    → d .selection .place < endOf (d .selection .number)
+    → d .selection .place < endOf (bitsIn d) (d .selection .number)
 unfolding putAnswer
 below-end d tables e =
-    let p = orElse-right (pick (eqb (length tables) tablesLen) done tablesLength) _ e in
+    let p = orElse-right (pick (eqb (length tables) (tablesLen (bitsIn d))) done tablesLength) _ e in
     let q = orElse-right (pick (d .selection .made) done notSelected) _ p in
     let r = orElse-right (pick (namedBy (d .active) (d .selection .number)) bankActive done) _ q in
-    ltb-true _ _ (lets-through (ltb (d .selection .place) (endOf (d .selection .number))) 4 r)
+    ltb-true _ _ (lets-through (ltb (d .selection .place) (endOf (bitsIn d) (d .selection .number))) 4 r)
 
 module _ (d : Display) (s : Sound d) where
   pub write-sound : (register value : ℕ) → Sound (writeOf d register value .state)
@@ -109,7 +116,7 @@ module _ (d : Display) (s : Sound d) where
   unfolding putOf putState
   put-sound tables =
       choose-keeps Sound (eqb (putAnswer d tables) done) _ _
-      (λ e. let h : d .selection .place < endOf (d .selection .number) = below-end d tables (eqb-true _ _ e) in
+      (λ e. let h : d .selection .place < endOf (bitsIn d) (d .selection .number) = below-end d tables (eqb-true _ _ e) in
       record {
         pending = s .pending;
         active = s .active;
@@ -133,7 +140,7 @@ module _ (d : Display) (s : Sound d) where
   frame-sound tables pictures out = paint-sound 0 8 tables pictures out
 
 pub reached-sound : {d : Display} → Reached d → Sound d
-reached-sound by-new = fresh-sound
+reached-sound (by-new bits) = new-sound bits
 reached-sound (by-write {d} register value r) = write-sound d (reached-sound r) register value
 reached-sound (by-select {d} selection r) = select-sound d (reached-sound r) selection
 reached-sound (by-toggle {d} bits r) = toggle-sound d (reached-sound r) bits

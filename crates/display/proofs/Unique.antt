@@ -11,7 +11,7 @@ use Rattle.words.specs.Fields.{widthOf, heightOf}
 use Rattle.display.specs.declared.Display.{Display}
 use Rattle.display.specs.declared.Told.{Told}
 use Rattle.display.specs.declared.Ran.{Ran}
-use Rattle.display.specs.State.{fresh, writeOf, selectOf, toggleOf, startOf}
+use Rattle.display.specs.State.{newOf, writeOf, selectOf, toggleOf, startOf}
 use Rattle.display.specs.Put.{putOf, putTables}
 use Rattle.display.specs.Runs.{putRunOf, putRunTables, writeRunOf}
 use Rattle.display.specs.Paint.{fillTold, fillBytes, paintTold, paintBytes, frameTold, frameBytes}
@@ -33,10 +33,11 @@ use Rattle.display.proofs.Display.output_height.Reads as output_height
 
 -- ---- calls that write no buffer
 
-abbrev pub newCall : Call (Unit {0}) Display
-newCall = callOf new.Post (λ κs i. tt) (λ κs a e. a)
+-- the number of bits
+abbrev pub newCall : Call ℕ Told
+newCall = callOf new.Post (λ κs i. i .0) (λ κs a e. a)
 
-pub new-tie : Tied newCall (λ x. fresh)
+pub new-tie : Tied newCall newOf
 new-tie = record { is = λ κs i a e. itself }
 
 pub new-unique : OneOutcome newCall

@@ -1,6 +1,6 @@
 -- The state as bytes that a C host lends, and what a call through a door answers and leaves. A door has the
 -- name, the arguments and the meaning of a call of the display. Assumes nothing.
-use Prim.Native.Nat.{ℕ}
+use Prim.Native.Nat.{ℕ, _%_}
 use mathlib.Core.List.{List, [], _∷_, _++_}
 use lib.ListN.{length}
 use lib.Dec.{eqb, ltb}
@@ -9,30 +9,36 @@ use Rattle.lists.specs.Little.{littleAt}
 use Rattle.lists.specs.Bytes.{littleBytes}
 use Rattle.lists.specs.Tab.{tab}
 use Rattle.answers.specs.Answers.{stateLength}
+use Rattle.profiles.specs.Profile.{profileOf}
 use Rattle.words.specs.Image.{wordsFrom}
 use Rattle.display.specs.declared.Display.{Display}
 use Rattle.display.specs.declared.Told.{Told}
 use Rattle.display.specs.State.{display, selectionOf}
 
--- 109 words of four bytes: 52 pending, 52 active, and five more
+-- 110 words of four bytes: 52 pending, 52 active, and six more
 abbrev pub stateLen : ℕ
-stateLen = 436
+stateLen = 440
 
 -- ---- a state out of bytes
 
--- every byte string stands for a state: something is selected where that word is not 0
+-- every byte string stands for a state: something is selected where that word is not 0, and a glyph pixel has two bits where
+-- the lowest bit of the last word is 1
 unfoldable pub takenOf : List ℕ → Display
 takenOf s =
     display (wordsFrom s 0) (wordsFrom s 208) (littleAt s 416) (littleAt s 420)
     (selectionOf (ltb 0 (littleAt s 424)) (littleAt s 428) (littleAt s 432))
+    (profileOf (eqb (littleAt s 436 % 2) 1))
 
 -- ---- bytes out of a state
 
--- the words behind the registers: frame number, error word, and the selection with 1 where one was made
+-- the words behind the registers: frame number, error word, the selection with 1 where one was made, and 1 where a glyph
+-- pixel has two bits
 unfoldable pub lastWords : Display → List ℕ
-lastWords d = d .frame ∷ d .errors ∷ pick (d .selection .made) 1 0 ∷ d .selection .number ∷ d .selection .place ∷ []
+lastWords d =
+    d .frame ∷ d .errors ∷ pick (d .selection .made) 1 0 ∷ d .selection .number ∷ d .selection .place
+    ∷ pick (d .profile .soft) 1 0 ∷ []
 
--- all 109
+-- all 110
 unfoldable pub stateWords : Display → List ℕ
 stateWords d = d .pending ++ (d .active ++ lastWords d)
 

@@ -11,7 +11,7 @@ use Rattle.display.specs.State.{withErrors, told}
 
 -- what the display paints from
 abbrev pub sceneWith : Display → List ℕ → List ℕ → Scene
-sceneWith d tables pictures = sceneOf (d .active) (d .frame) tables pictures
+sceneWith d tables pictures = sceneOf (d .profile) (d .active) (d .frame) tables pictures
 
 -- ---- fill: "Fill writes the background to every pixel."
 

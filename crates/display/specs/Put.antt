@@ -1,4 +1,5 @@
--- What put answers and leaves, in the state and in the tables: 01 "Tables", "Answers by number". Assumes nothing.
+-- What put answers and leaves, in the state and in the tables: 01 "Tables", "Answers by number", with the geometry of the
+-- state's bits a glyph pixel. Assumes nothing.
 use Prim.Native.Nat.{ℕ, _+_, _*_, _^_}
 use mathlib.Core.List.{List}
 use lib.ListN.{length, set}
@@ -10,16 +11,16 @@ use Rattle.tables.specs.Geometry.{tablesLen}
 use Rattle.tables.specs.Selection.{controllerOf, endOf, firstByteOf, namedBy}
 use Rattle.display.specs.declared.Display.{Display}
 use Rattle.display.specs.declared.Told.{Told}
-use Rattle.display.specs.State.{withErrors, withPlace, told}
+use Rattle.display.specs.State.{bitsIn, withErrors, withPlace, told}
 
--- "Order: put 6, 3, 4, 5.": "tables not 29,696 bytes", "nothing selected", "the active word 3 names the
--- selected bank", "place is at the kind's end"
+-- "Order: put 6, 3, 4, 5.": "tables not 29,696 bytes" (02 K2: "6 compares with the chosen length"), "nothing selected",
+-- "the active word 3 names the selected bank", "place is at the kind's end"
 unfoldable pub putAnswer : Display → List ℕ → ℕ
 putAnswer d tables =
-    orElse (pick (eqb (length tables) tablesLen) done tablesLength)
+    orElse (pick (eqb (length tables) (tablesLen (bitsIn d))) done tablesLength)
     (orElse (pick (d .selection .made) done notSelected)
     (orElse (pick (namedBy (d .active) (d .selection .number)) bankActive done)
-    (pick (ltb (d .selection .place) (endOf (d .selection .number))) done bankFull)))
+    (pick (ltb (d .selection .place) (endOf (bitsIn d) (d .selection .number))) done bankFull)))
 
 -- "Each put stores one byte and moves the place by one."; 5: "error bit 4g+1 set, else unchanged"; the
 -- others: "all unchanged"
@@ -37,4 +38,4 @@ putOf d tables = told (putState d (putAnswer d tables)) (putAnswer d tables)
 unfoldable pub putTables : Display → List ℕ → ℕ → List ℕ
 putTables d tables byte =
     choose (eqb (putAnswer d tables) done)
-    (set tables (firstByteOf (d .selection .number) + d .selection .place) byte) tables
+    (set tables (firstByteOf (bitsIn d) (d .selection .number) + d .selection .place) byte) tables

@@ -8,15 +8,15 @@ use lib.ListN.{length, replicate}
 use Rattle.words.specs.Check.{Accepted}
 use Rattle.tables.specs.Selection.{endOf}
 use Rattle.display.specs.declared.Display.{Display}
-use Rattle.display.specs.State.{fresh, writeOf, selectOf, toggleOf, startOf}
+use Rattle.display.specs.State.{bitsIn, newOf, writeOf, selectOf, toggleOf, startOf}
 use Rattle.display.specs.Put.{putOf}
 use Rattle.display.specs.Paint.{fillTold, paintTold, frameTold}
 
--- the fresh state, and what each call makes of one that has come to be. Numbers are not held to 32 bits
+-- the fresh states, and what each call makes of one that has come to be. Numbers are not held to 32 bits
 -- nor bytes to 8, as the calls' types hold them, so that there are rather more states here than fewer. A run
 -- makes none that its single calls do not (`laws/proofs/Runs`)
 pub data Reached : Display → Type 0 where
-  by-new : Reached fresh
+  by-new : (bits : ℕ) → Reached (newOf bits .state)
   by-write : {d : Display} (register value : ℕ) → Reached d → Reached (writeOf d register value .state)
   by-select : {d : Display} (selection : ℕ) → Reached d → Reached (selectOf d selection .state)
   by-toggle : {d : Display} (bits : ℕ) → Reached d → Reached (toggleOf d bits .state)
@@ -34,4 +34,4 @@ pub record Sound (d : Display) : Type 0 where
   pub active : length (d .active) ≡ 52
   pub accepted : (d .active ≡ replicate 52 0) ⊎ Accepted (d .active)
   pub selection : d .selection .number < 64
-  pub place : d .selection .place ≤ endOf (d .selection .number)
+  pub place : d .selection .place ≤ endOf (bitsIn d) (d .selection .number)

@@ -1,5 +1,5 @@
--- The state, and what write, select, toggle and start answer and leave: 01 "What the display is made
--- of", "Registers", "Answers by number". Assumes nothing.
+-- The state, and what new, write, select, toggle and start answer and leave: 01 "What the display is made
+-- of", "Registers", "Answers by number", 02 K2. Assumes nothing.
 use Prim.Native.Nat.{ℕ, _+_, _%_, _^_}
 use mathlib.Core.List.{List}
 use mathlib.Core.Bool.{Bool, true, false}
@@ -7,7 +7,9 @@ use lib.ListN.{set, replicate}
 use lib.Dec.{ltb, eqb}
 use lib.Bits.{bitXor}
 use Rattle.lists.specs.Choice.{choose}
-use Rattle.answers.specs.Answers.{done, noRegister, noSelection}
+use Rattle.answers.specs.Answers.{done, noRegister, noSelection, glyphBits}
+use Rattle.profiles.specs.declared.Profile.{Profile}
+use Rattle.profiles.specs.Profile.{oneBit, twoBits, bitsOf}
 use Rattle.words.specs.Fields.{updateOf}
 use Rattle.words.specs.Check.{checkOf}
 use Rattle.display.specs.declared.Display.{Display}
@@ -17,38 +19,50 @@ use Rattle.display.specs.declared.Told.{Told}
 -- ---- the state, and a part of it replaced
 
 -- "The state holds pending registers, active registers, frame number (32 bits), error word (32 bits),
--- and a table selection with its place.": all parts of a state, in this order
-abbrev pub display : List ℕ → List ℕ → ℕ → ℕ → Selection → Display
-display pending active frame errors selection =
-    record { pending = pending; active = active; frame = frame; errors = errors; selection = selection }
+-- and a table selection with its place."; 02 K2: "The number of bits is chosen when a state is made": all parts of a
+-- state, in this order
+abbrev pub display : List ℕ → List ℕ → ℕ → ℕ → Selection → Profile → Display
+display pending active frame errors selection profile =
+    record {
+      pending = pending;
+      active = active;
+      frame = frame;
+      errors = errors;
+      selection = selection;
+      profile = profile;
+    }
 
 -- whether one was made, its number, and the place
 abbrev pub selectionOf : Bool → ℕ → ℕ → Selection
 selectionOf made number place = record { made = made; number = number; place = place }
 
--- "A fresh state has all numbers 0 and nothing selected."
-abbrev pub fresh : Display
-fresh = display (replicate 52 0) (replicate 52 0) 0 0 (selectionOf false 0 0)
+-- "A fresh state has all numbers 0 and nothing selected.", of what was chosen
+abbrev pub fresh : Profile → Display
+fresh profile = display (replicate 52 0) (replicate 52 0) 0 0 (selectionOf false 0 0) profile
+
+-- how many bits a glyph pixel has
+abbrev pub bitsIn : Display → ℕ
+bitsIn d = bitsOf (d .profile)
 
 -- the state with other pending words, all else as it was
 abbrev pub withPending : Display → List ℕ → Display
-withPending d pending = display pending (d .active) (d .frame) (d .errors) (d .selection)
+withPending d pending = display pending (d .active) (d .frame) (d .errors) (d .selection) (d .profile)
 
 -- with other active words
 abbrev pub withActive : Display → List ℕ → Display
-withActive d active = display (d .pending) active (d .frame) (d .errors) (d .selection)
+withActive d active = display (d .pending) active (d .frame) (d .errors) (d .selection) (d .profile)
 
 -- at another frame number
 abbrev pub withFrame : Display → ℕ → Display
-withFrame d frame = display (d .pending) (d .active) frame (d .errors) (d .selection)
+withFrame d frame = display (d .pending) (d .active) frame (d .errors) (d .selection) (d .profile)
 
 -- with another error word
 abbrev pub withErrors : Display → ℕ → Display
-withErrors d errors = display (d .pending) (d .active) (d .frame) errors (d .selection)
+withErrors d errors = display (d .pending) (d .active) (d .frame) errors (d .selection) (d .profile)
 
 -- with another selection and its place
 abbrev pub withSelection : Display → Selection → Display
-withSelection d selection = display (d .pending) (d .active) (d .frame) (d .errors) selection
+withSelection d selection = display (d .pending) (d .active) (d .frame) (d .errors) selection (d .profile)
 
 -- with a new selection, at place 0
 abbrev pub freshSelection : Display → ℕ → Display
@@ -61,6 +75,14 @@ withPlace d place = withSelection d (selectionOf (d .selection .made) (d .select
 -- a state and an answer
 abbrev pub told : Display → ℕ → Told
 told d answer = record { state = d; answer = answer }
+
+-- ---- new
+
+-- 02 K2: "17 for a bit number other than 1 or 2 when making a state, handing back a fresh one-bit state"
+abbrev pub newOf : ℕ → Told
+newOf bits =
+    choose (eqb bits 1) (told (fresh oneBit) done)
+    (choose (eqb bits 2) (told (fresh twoBits) done) (told (fresh oneBit) glyphBits))
 
 -- ---- write, select, toggle
 

@@ -3,9 +3,8 @@
 ghost use mathlib.Core.Path.{_≡_};
 ghost use lib.ListN.{length};
 ghost use Rattle.lists.specs.Choice.{pick};
-ghost use Rattle.answers.specs.Answers.{done};
 ghost use Rattle.words.specs.Fields.{widthOf, heightOf};
-ghost use Rattle.display.specs.State.{fresh, told, writeOf, selectOf, toggleOf, startOf};
+ghost use Rattle.display.specs.State.{newOf, writeOf, selectOf, toggleOf, startOf};
 ghost use Rattle.display.specs.Put.{putOf, putTables};
 ghost use Rattle.display.specs.Runs.{toldBy, putRunOf, putRunTables, writeRunOf};
 ghost use Rattle.display.specs.Paint.{fillTold, fillBytes, paintTold, paintBytes, frameTold, frameBytes};
@@ -14,15 +13,16 @@ ghost use Rattle.display.specs.Doors.{doorBuffer, doorRead};
 use crate::Display;
 use crate::Told;
 use crate::told_by;
-use answers::DONE;
 use answers::STATE_LENGTH;
 use numbers::put_words;
+use profiles::Profile;
 use tables::Selection;
 use words::image::word_at;
 use words::image::words_at;
 
-// Pending words, active words, frame number, error word, whether something is selected, selection, place.
-const STATE_LEN: usize = 436;
+// Pending words, active words, frame number, error word, whether something is selected, selection, place,
+// profile.
+const STATE_LEN: usize = 440;
 
 // ---- the state
 
@@ -37,6 +37,7 @@ fn taken(state: &[u8]) -> Display
     let made = 0 < word_at(state, 424);
     let number = word_at(state, 428);
     let place = word_at(state, 432);
+    let soft = word_at(state, 436) % 2 == 1;
     Display {
         pending,
         active,
@@ -47,6 +48,7 @@ fn taken(state: &[u8]) -> Display
             number,
             place,
         },
+        profile: Profile { soft },
     }
 }
 
@@ -64,16 +66,18 @@ fn put_back(d: Display, state: &mut [u8])
     ensures { λ _. ⌜ now (state .exit) ≡ stateBytes d ⌝ }
 {
     let made = flag_of(d.selection.made);
-    let last: [u32; 5] = [
+    let soft = flag_of(d.profile.soft);
+    let last: [u32; 6] = [
         d.frame,
         d.errors,
         made,
         d.selection.number,
         d.selection.place,
+        soft,
     ];
     put_words(&mut state[0..208], &d.pending);
     put_words(&mut state[208..416], &d.active);
-    put_words(&mut state[416..436], &last);
+    put_words(&mut state[416..440], &last);
 }
 
 // What a call told: its state put back, its answer as C has it.
@@ -89,15 +93,14 @@ fn given(told: Told, state: &mut [u8]) -> u32
 // ---- the doors: a state of another length is refused with 23, and all is as it was
 
 #[no_mangle]
-pub extern "C" fn spoonwing_display_new(state: &mut [u8]) -> u32
-    ensures answer { λ r. ⌜ r ≡ doorAnswer (now (state .entry)) (λ _. told fresh done) ⌝ }
-    ensures state { λ _. ⌜ now (state .exit) ≡ doorState (now (state .entry)) (λ _. told fresh done) ⌝ }
+pub extern "C" fn spoonwing_display_new(state: &mut [u8], bits: u32) -> u32
+    ensures answer { λ r. ⌜ r ≡ doorAnswer (now (state .entry)) (λ _. newOf bits) ⌝ }
+    ensures state { λ _. ⌜ now (state .exit) ≡ doorState (now (state .entry)) (λ _. newOf bits) ⌝ }
 {
     if state.len() != STATE_LEN {
         return STATE_LENGTH as u32;
     }
-    put_back(Display::new(), state);
-    DONE as u32
+    given(Display::new(bits), state)
 }
 
 #[no_mangle]

@@ -1,15 +1,20 @@
 // The display's state and its calls. Each call takes the state and hands it back with an answer, and
 // a refusal leaves what the answer's row in `answers` says.
 ghost use mathlib.Core.Path.{_≡_};
+ghost use Rattle.profiles.specs.Profile.{profileOf};
 ghost use Rattle.words.specs.Fields.{widthOf, heightOf};
-ghost use Rattle.display.specs.State.{fresh, told, withFrame, writeOf, selectOf, toggleOf, startOf};
+ghost use Rattle.display.specs.State.{fresh, told, withFrame, withErrors, withPlace, newOf, writeOf, selectOf, toggleOf, startOf};
 ghost use Rattle.display.specs.Put.{putOf, putTables};
-ghost use Rattle.display.specs.Runs.{toldBy, putRunOf, putRunTables, writeRunOf};
+ghost use Rattle.display.specs.Runs.{ran, toldBy, putRunOf, putRunTables, writeRunOf};
 ghost use Rattle.display.specs.Paint.{fillTold, fillBytes, paintTold, paintBytes, frameTold, frameBytes};
 use answers::DONE;
+use answers::GLYPH_BITS;
 use answers::NO_REGISTER;
 use answers::NO_SELECTION;
+use loads::Loaded;
 use loads::REGISTERS;
+use profiles::Profile;
+use profiles::bits_of;
 use starts::refusal_of;
 use tables::Selection;
 use words::fields::is_update;
@@ -27,6 +32,7 @@ pub struct Display {
     frame: u32,
     errors: u32,
     selection: Selection,
+    profile: Profile,
 }
 
 // What a call answers: the state afterwards, and 0 or the number of the refusal.
@@ -54,6 +60,20 @@ fn at_frame(mut state: Display, frame: u32, answer: u8) -> Told
     }
 }
 
+// A run of puts, by what was loaded.
+fn laden(mut state: Display, loaded: Loaded) -> Ran
+    ensures { λ r. ⌜ r
+        ≡ ran (withErrors (withPlace state (loaded .place)) (loaded .errors)) (loaded .answer) (loaded .done) ⌝ }
+{
+    state.selection.place = loaded.place;
+    state.errors = loaded.errors;
+    Ran {
+        state: state,
+        answer: loaded.answer,
+        done: loaded.done,
+    }
+}
+
 // What a run answers, without its count.
 fn told_by(ran: Ran) -> Told
     ensures { λ r. ⌜ r ≡ toldBy ran ⌝ }
@@ -65,22 +85,38 @@ fn told_by(ran: Ran) -> Told
     }
 }
 
+// A display to which nothing has happened, and an answer.
+fn made(soft: bool, answer: u8) -> Told
+    ensures { λ r. ⌜ r ≡ told (fresh (profileOf soft)) answer ⌝ }
+{
+    let state = Display {
+        pending: [0; 52],
+        active: [0; 52],
+        frame: 0,
+        errors: 0,
+        selection: Selection {
+            made: false,
+            number: 0,
+            place: 0,
+        },
+        profile: Profile { soft },
+    };
+    Told { state, answer }
+}
+
 impl Display {
-    // A display to which nothing has happened: all numbers 0, and nothing selected.
-    pub fn new() -> Display
-        ensures { λ r. ⌜ r ≡ fresh ⌝ }
+    // A display to which nothing has happened: all numbers 0, and nothing selected. A pixel of a glyph has 1
+    // or 2 bits; another number is refused with 17, and the display handed back has 1.
+    pub fn new(bits: u32) -> Told
+        ensures { λ r. ⌜ r ≡ newOf bits ⌝ }
     {
-        Display {
-            pending: [0; 52],
-            active: [0; 52],
-            frame: 0,
-            errors: 0,
-            selection: Selection {
-                made: false,
-                number: 0,
-                place: 0,
-            },
+        if bits == 1 {
+            return made(false, DONE);
         }
+        if bits == 2 {
+            return made(true, DONE);
+        }
+        made(false, GLYPH_BITS)
     }
 
     // Changes a pending word. A register above 51 is refused with 1, and all is as it was.
@@ -155,31 +191,31 @@ impl Display {
     }
 
     // Stores a byte in the selected table and goes on to the next place. Refused, in this order, with 6
-    // where `tables` is not 29,696 bytes, 3 where nothing is selected, 4 where the active words name
+    // where `tables` is not as long as the display's bits a glyph pixel ask, 3 where nothing is selected, 4 where the active words name
     // the bank, and 5 at the table's end, which sets an error bit; else a refusal changes nothing.
     pub fn put(self, tables: &mut [u8], byte: u8) -> Told
         ensures state { λ r. ⌜ r ≡ putOf self (now (tables .entry)) ⌝ }
         ensures tables { λ _. ⌜ now (tables .exit) ≡ putTables self (now (tables .entry)) byte ⌝ }
     {
         let run = [byte];
-        told_by(self.put_run(tables, &run))
+        let selection = self.selection;
+        let profile = self.profile;
+        let bits = bits_of(profile);
+        let loaded = loads::put_run(bits, &self.active, self.errors, selection, tables, &run);
+        told_by(laden(self, loaded))
     }
 
     // Puts each byte of a run, in order, up to the first that is refused: as many calls of `put`. An empty
     // run changes nothing, whatever the tables.
-    pub fn put_run(mut self, tables: &mut [u8], run: &[u8]) -> Ran
+    pub fn put_run(self, tables: &mut [u8], run: &[u8]) -> Ran
         ensures state { λ r. ⌜ r ≡ putRunOf self (now (tables .entry)) (now (run .entry)) ⌝ }
         ensures tables { λ _. ⌜ now (tables .exit) ≡ putRunTables self (now (tables .entry)) (now (run .entry)) ⌝ }
     {
         let selection = self.selection;
-        let loaded = loads::put_run(&self.active, self.errors, selection, tables, run);
-        self.selection.place = loaded.place;
-        self.errors = loaded.errors;
-        Ran {
-            state: self,
-            answer: loaded.answer,
-            done: loaded.done,
-        }
+        let profile = self.profile;
+        let bits = bits_of(profile);
+        let loaded = loads::put_run(bits, &self.active, self.errors, selection, tables, run);
+        laden(self, loaded)
     }
 
     // Makes each register write of a run, in order, up to the first that is refused: as many calls of
@@ -225,7 +261,9 @@ impl Display {
         ensures output { λ _. ⌜ now (out .exit)
             ≡ paintBytes self low high (now (tables .entry)) (now (pictures .entry)) (now (out .entry)) ⌝ }
     {
+        let profile = self.profile;
         let painted = paint::band(
+            profile,
             &self.active,
             self.frame,
             self.errors,
@@ -248,7 +286,16 @@ impl Display {
         ensures output { λ _. ⌜ now (out .exit)
             ≡ frameBytes self (now (tables .entry)) (now (pictures .entry)) (now (out .entry)) ⌝ }
     {
-        let painted = paint::frame(&self.active, self.frame, self.errors, tables, pictures, out);
+        let profile = self.profile;
+        let painted = paint::frame(
+            profile,
+            &self.active,
+            self.frame,
+            self.errors,
+            tables,
+            pictures,
+            out,
+        );
         self.errors = painted.errors;
         Told {
             state: self,

@@ -23,20 +23,23 @@ use Rattle.answers.specs.Answers.{done, bankFull}
 use Rattle.runs.specs.Writes.{Write, firstWrites, writesIn}
 use Rattle.runs.proofs.RunLaws.{Each, each-any}
 use Rattle.runs.proofs.RunLaws as run
+use Rattle.profiles.specs.declared.Profile.{Profile}
+use Rattle.profiles.specs.Profile.{oneBit, twoBits}
+use Rattle.profiles.proofs.ProfileLaws.{bits-few}
 use Rattle.words.specs.Fields.{updateOf, shownOf, layerOf}
 use Rattle.words.specs.Order.{here}
 use Rattle.words.specs.Check.{checkOf}
 use Rattle.words.specs.Image.{wordsFrom}
 use Rattle.tables.specs.Selection.{kindOf, endOf, controllerOf}
 use Rattle.tables.specs.declared.Selection.{Selection}
-use Rattle.tables.proofs.Geometry.{kind-room}
+use Rattle.tables.proofs.Geometry.{kind-room, bank-le}
 use Rattle.frames.specs.Scene.{Scene}
 use Rattle.frames.specs.Band.{layerStep, depthStep, bandBy, missing, markAt, errorsOf}
 use Rattle.frames.specs.Frame.{refusalOf, errorsAfter}
 use Rattle.display.specs.declared.Display.{Display}
 use Rattle.display.specs.declared.Told.{Told}
-use Rattle.display.specs.State.{fresh, withPending, withActive, withFrame, withErrors, withSelection, stepped, writeOf}
-use Rattle.display.specs.State.{selectOf, toggleOf, startOf}
+use Rattle.display.specs.State.{bitsIn, fresh, newOf, withPending, withActive, withFrame, withErrors, withSelection}
+use Rattle.display.specs.State.{stepped, writeOf, selectOf, toggleOf, startOf}
 use Rattle.display.specs.Put.{putAnswer, putState, putOf}
 use Rattle.display.specs.Runs.{lent, putOne, puts, putRunOf, writeOne, writes, writeRunOf}
 use Rattle.display.specs.Paint.{sceneWith, fillTold, paintTold, frameTold}
@@ -76,15 +79,15 @@ taken-fits s b =
       place = little-fits s b 432;
     }
 
--- ---- the fresh state, which is that of zeros
+-- ---- the fresh states; one of them is that of zeros
 
 zeros-below : (n : ℕ) → AreWords (replicate n 0)
 zeros-below zero i = omega arith
 zeros-below (suc n) zero = omega arith
 zeros-below (suc n) (suc i) = zeros-below n i
 
-pub fresh-fits : Fits fresh
-fresh-fits =
+pub fresh-fits : (p : Profile) → Fits (fresh p)
+fresh-fits p =
     record {
       pending = refl;
       active = refl;
@@ -95,6 +98,12 @@ fresh-fits =
       number = omega arith;
       place = omega arith;
     }
+
+new-fits : (bits : ℕ) → Fits (newOf bits .state)
+new-fits bits =
+    choose-keeps (λ (t : Told). Fits (t .state)) (eqb bits 1) _ _ (λ _. fresh-fits oneBit)
+    (λ _. choose-keeps (λ (t : Told). Fits (t .state)) (eqb bits 2) _ _ (λ _. fresh-fits twoBits)
+    (λ _. fresh-fits oneBit))
 
 -- ---- a part replaced
 
@@ -219,8 +228,9 @@ module _ (d : Display) (f : Fits d) where
   unfolding putOf putState
   put-fits tables =
       choose-keeps Fits (eqb (putAnswer d tables) done) _ _
-      (λ e. let h : d .selection .place < endOf (d .selection .number) = below-end d tables (eqb-true _ _ e) in
-      selection-kept d f _ (f .number) (omega (arith, kind-room (kindOf (d .selection .number)))))
+      (λ e. let h : d .selection .place < endOf (bitsIn d) (d .selection .number) = below-end d tables (eqb-true _ _ e) in
+      selection-kept d f _ (f .number) (omega
+      (arith, kind-room (bitsIn d) (kindOf (d .selection .number)), bank-le (bitsIn d) (bits-few (d .profile)))))
       (λ e. choose-keeps Fits (eqb (putAnswer d tables) bankFull) _ _
       (λ g. errors-kept d f _ (or-lt 32 (d .errors) _ (f .errors)
       (bit-fits (4 * controllerOf (d .selection .number) + 1) (omega arith))))
@@ -264,7 +274,7 @@ module _ (d : Display) (f : Fits d) where
 
   -- each of them
   pub call-fits : (a : Ask) → Typed a → Fits (tellsOf a d .state)
-  call-fits ask-new t = fresh-fits
+  call-fits (ask-new bits) t = new-fits bits
   call-fits (ask-write register value) t = write-fits d f register value t
   call-fits (ask-select selection) t = select-fits d f selection
   call-fits (ask-toggle bits) t = errors-kept d f _ (xor-lt 32 (d .errors) bits (f .errors) t)

@@ -12,13 +12,14 @@ use Rattle.lists.proofs.Call.{pair-is, triple-is, quadruple-is, tied-meets}
 use Rattle.answers.specs.Answers.{done}
 use Rattle.display.specs.declared.Display.{Display}
 use Rattle.display.specs.declared.Told.{Told}
-use Rattle.display.specs.State.{fresh, told, startOf, writeOf, selectOf, toggleOf}
+use Rattle.profiles.specs.Profile.{oneBit}
+use Rattle.display.specs.State.{newOf, startOf, writeOf, selectOf, toggleOf}
 use Rattle.display.specs.Put.{putOf}
 use Rattle.display.specs.Runs.{toldBy, putRunOf, writeRunOf}
 use Rattle.display.proofs.PutLaws.{put-done}
 use Rattle.display.specs.Paint.{fillTold, fillBytes, paintTold, paintBytes, frameTold, frameBytes}
 use Rattle.display.specs.Doors.{takenOf, stateBytes}
-use Rattle.laws.specs.Small.{grey, night, written, started, selecting, oneWrite, blank, filled, white, clear, dim}
+use Rattle.laws.specs.Small.{first, grey, night, written, started, selecting, oneWrite, blank, filled, white, clear, dim}
 use Rattle.laws.specs.Small.{bright}
 use Rattle.laws.specs.Small.{painted, framed}
 use Rattle.laws.specs.Impostors.{TurnsDown, Rule, lowest, by256, numbered, groundLast, paintBy, frameBy}
@@ -39,13 +40,13 @@ use Rattle.doors.proofs.Unique.{frame-door-tie, putRunDoor, writeRunDoo
 held : (d : Display) → Fits d → Holds (stateBytes d) d
 held d f = record { bytes = refl; fits = f }
 
-fresh-held : Holds (stateBytes fresh) fresh
-fresh-held = held fresh fresh-fits
+fresh-held : Holds (stateBytes first) first
+fresh-held = held first (fresh-fits oneBit)
 
 -- the words of the one pixel are written one after another
 written-fits : (ground : ℕ) → ground < 2 ^ 32 → Fits (written ground)
 written-fits ground b =
-    let f1 = call-fits fresh fresh-fits (ask-write 0 5) (omega arith) in
+    let f1 = call-fits first (fresh-fits oneBit) (ask-write 0 5) (omega arith) in
     let f2 = call-fits _ f1 (ask-write 1 0x0001_0001) (omega arith) in
     let f3 = call-fits _ f2 (ask-write 2 ground) b in
     let f4 = call-fits _ f3 (ask-write 4 0x0101) (omega arith) in
@@ -60,7 +61,7 @@ started-held : (ground : ℕ) → ground < 2 ^ 32 → Holds (stateBytes (started
 started-held ground b = held (started ground) (call-fits (written ground) (written-fits ground b) ask-start tt)
 
 selecting-held : Holds (stateBytes selecting) selecting
-selecting-held = held selecting (call-fits fresh fresh-fits (ask-select 1) tt)
+selecting-held = held selecting (call-fits first (fresh-fits oneBit) (ask-select 1) tt)
 
 -- states that differ have bytes that differ
 bytes-apart : (d e : Display) → Fits d → Fits e → (f : Display → ℕ) → (f d ≡ f e → ⊥) → stateBytes d ≡ stateBytes e → ⊥
@@ -69,24 +70,24 @@ bytes-apart d e p q f ne same = ne (ap f (sym (taken-back d p) ∙ ap takenOf sa
 -- ---- "one that turns everything down"
 
 module _ (a : ℕ) (s : List ℕ) (down : TurnsDown a) where
-  pub new-door-down : Meets newDoor (stateBytes selecting) (a, s) → ⊥
+  pub new-door-down : Meets newDoor (stateBytes selecting, 1) (a, s) → ⊥
   new-door-down m =
-      down (pair-is .1 (tied-meets new-door-tie m) .0 ∙ answer-held _ selecting selecting-held (λ d. told fresh done))
+      down (pair-is .1 (tied-meets new-door-tie m) .0 ∙ answer-held _ selecting selecting-held (λ d. newOf 1))
 
-  pub write-door-down : Meets writeDoor (stateBytes fresh, 0, 1) (a, s) → ⊥
+  pub write-door-down : Meets writeDoor (stateBytes first, 0, 1) (a, s) → ⊥
   write-door-down m =
       down (pair-is .1 (tied-meets write-door-tie m) .0
-      ∙ answer-held _ fresh fresh-held (λ d. writeOf d 0 1) ∙ small.write-accepted)
+      ∙ answer-held _ first fresh-held (λ d. writeOf d 0 1) ∙ small.write-accepted)
 
-  pub select-door-down : Meets selectDoor (stateBytes fresh, 1) (a, s) → ⊥
+  pub select-door-down : Meets selectDoor (stateBytes first, 1) (a, s) → ⊥
   select-door-down m =
       down (pair-is .1 (tied-meets select-door-tie m) .0
-      ∙ answer-held _ fresh fresh-held (λ d. selectOf d 1) ∙ small.select-accepted)
+      ∙ answer-held _ first fresh-held (λ d. selectOf d 1) ∙ small.select-accepted)
 
-  pub toggle-door-down : Meets toggleDoor (stateBytes fresh, 1) (a, s) → ⊥
+  pub toggle-door-down : Meets toggleDoor (stateBytes first, 1) (a, s) → ⊥
   toggle-door-down m =
       down (pair-is .1 (tied-meets toggle-door-tie m) .0
-      ∙ answer-held _ fresh fresh-held (λ d. toggleOf d 1) ∙ small.toggle-accepted)
+      ∙ answer-held _ first fresh-held (λ d. toggleOf d 1) ∙ small.toggle-accepted)
 
   pub start-door-down : Meets startDoor (stateBytes (written grey)) (a, s) → ⊥
   start-door-down m =
@@ -106,10 +107,10 @@ module _ (a : ℕ) (s : List ℕ) (down : TurnsDown a) where
       ∙ answer-held _ selecting selecting-held (λ d. toldBy (putRunOf d blank (7 ∷ [])))
       ∙ ap (λ (r : Told). r .answer) (put-run-one selecting blank 7 .0) ∙ small.put-accepted)
 
-  pub write-run-door-down : (n : ℕ) → Meets writeRunDoor (stateBytes fresh, oneWrite) (a, s, n) → ⊥
+  pub write-run-door-down : (n : ℕ) → Meets writeRunDoor (stateBytes first, oneWrite) (a, s, n) → ⊥
   write-run-door-down n m =
       down (triple-is .1 (tied-meets write-run-door-tie m) .0
-      ∙ answer-held _ fresh fresh-held (λ d. toldBy (writeRunOf d oneWrite))
+      ∙ answer-held _ first fresh-held (λ d. toldBy (writeRunOf d oneWrite))
       ∙ ap (λ (r : Told). r .answer) write-one ∙ small.write-accepted)
 
   pub fill-door-down : (o : List ℕ) → Meets fillDoor (stateBytes (started grey), filled) (a, s, o) → ⊥
@@ -133,29 +134,29 @@ module _ (a : ℕ) (s : List ℕ) (down : TurnsDown a) where
 
 -- ---- "one that touches nothing"
 
-pub new-door-untouched : Meets newDoor (stateBytes selecting) (done, stateBytes selecting) → ⊥
+pub new-door-untouched : Meets newDoor (stateBytes selecting, 1) (done, stateBytes selecting) → ⊥
 new-door-untouched m =
-    bytes-apart selecting fresh (selecting-held .fits) fresh-fits
+    bytes-apart selecting first (selecting-held .fits) (fresh-fits oneBit)
     (λ (d : Display). d .selection .number) (λ (z : 1 ≡ 0). omega arith)
-    (pair-is .1 (tied-meets new-door-tie m) .1 ∙ state-held _ selecting selecting-held (λ d. told fresh done))
+    (pair-is .1 (tied-meets new-door-tie m) .1 ∙ state-held _ selecting selecting-held (λ d. newOf 1))
 
-pub write-door-untouched : Meets writeDoor (stateBytes fresh, 0, 1) (done, stateBytes fresh) → ⊥
+pub write-door-untouched : Meets writeDoor (stateBytes first, 0, 1) (done, stateBytes first) → ⊥
 write-door-untouched m =
-    bytes-apart fresh (writeOf fresh 0 1 .state) fresh-fits (call-fits fresh fresh-fits (ask-write 0 1) (omega arith))
+    bytes-apart first (writeOf first 0 1 .state) (fresh-fits oneBit) (call-fits first (fresh-fits oneBit) (ask-write 0 1) (omega arith))
     (λ (d : Display). getD (d .pending) 0 0) (λ (z : 0 ≡ 1). omega arith)
-    (pair-is .1 (tied-meets write-door-tie m) .1 ∙ state-held _ fresh fresh-held (λ d. writeOf d 0 1))
+    (pair-is .1 (tied-meets write-door-tie m) .1 ∙ state-held _ first fresh-held (λ d. writeOf d 0 1))
 
-pub select-door-untouched : Meets selectDoor (stateBytes fresh, 1) (done, stateBytes fresh) → ⊥
+pub select-door-untouched : Meets selectDoor (stateBytes first, 1) (done, stateBytes first) → ⊥
 select-door-untouched m =
-    bytes-apart fresh selecting fresh-fits (selecting-held .fits)
+    bytes-apart first selecting (fresh-fits oneBit) (selecting-held .fits)
     (λ (d : Display). d .selection .number) (λ (z : 0 ≡ 1). omega arith)
-    (pair-is .1 (tied-meets select-door-tie m) .1 ∙ state-held _ fresh fresh-held (λ d. selectOf d 1))
+    (pair-is .1 (tied-meets select-door-tie m) .1 ∙ state-held _ first fresh-held (λ d. selectOf d 1))
 
-pub toggle-door-untouched : Meets toggleDoor (stateBytes fresh, 1) (done, stateBytes fresh) → ⊥
+pub toggle-door-untouched : Meets toggleDoor (stateBytes first, 1) (done, stateBytes first) → ⊥
 toggle-door-untouched m =
-    bytes-apart fresh (toggleOf fresh 1 .state) fresh-fits (call-fits fresh fresh-fits (ask-toggle 1) (omega arith))
+    bytes-apart first (toggleOf first 1 .state) (fresh-fits oneBit) (call-fits first (fresh-fits oneBit) (ask-toggle 1) (omega arith))
     (λ (d : Display). d .errors) (λ (z : 0 ≡ 1). omega arith)
-    (pair-is .1 (tied-meets toggle-door-tie m) .1 ∙ state-held _ fresh fresh-held (λ d. toggleOf d 1))
+    (pair-is .1 (tied-meets toggle-door-tie m) .1 ∙ state-held _ first fresh-held (λ d. toggleOf d 1))
 
 pub start-door-untouched : Meets startDoor (stateBytes (written grey)) (done, stateBytes (written grey)) → ⊥
 unfolding small.wordsOpen
@@ -190,12 +191,12 @@ put-run-door-untouched t n m =
     (quadruple-is .1 (tied-meets put-run-door-tie m) .1 .0
     ∙ state-held _ selecting selecting-held (λ d. toldBy (putRunOf d blank (7 ∷ []))))
 
-pub write-run-door-untouched : (n : ℕ) → Meets writeRunDoor (stateBytes fresh, oneWrite) (done, stateBytes fresh, n) → ⊥
+pub write-run-door-untouched : (n : ℕ) → Meets writeRunDoor (stateBytes first, oneWrite) (done, stateBytes first, n) → ⊥
 write-run-door-untouched n m =
-    bytes-apart fresh (writeOf fresh 0 1 .state) fresh-fits (call-fits fresh fresh-fits (ask-write 0 1) (omega arith))
+    bytes-apart first (writeOf first 0 1 .state) (fresh-fits oneBit) (call-fits first (fresh-fits oneBit) (ask-write 0 1) (omega arith))
     (λ (d : Display). getD (d .pending) 0 0) (λ (z : 0 ≡ 1). omega arith)
     (triple-is .1 (tied-meets write-run-door-tie m) .1 .0
-    ∙ state-held _ fresh fresh-held (λ d. toldBy (writeRunOf d oneWrite))
+    ∙ state-held _ first fresh-held (λ d. toldBy (writeRunOf d oneWrite))
     ∙ ap (λ (r : Told). stateBytes (r .state)) write-one)
 
 -- ---- a count of anything but the one item
@@ -208,12 +209,12 @@ module _ (a : ℕ) (s : List ℕ) (n : ℕ) (miscounted : n ≡ 1 → ⊥) where
       ∙ read-held _ selecting selecting-held (λ d. putRunOf d blank (7 ∷ []) .done)
       ∙ put-run-all selecting blank (7 ∷ []) passed)
 
-  pub write-run-door-miscounted : Meets writeRunDoor (stateBytes fresh, oneWrite) (a, s, n) → ⊥
+  pub write-run-door-miscounted : Meets writeRunDoor (stateBytes first, oneWrite) (a, s, n) → ⊥
   write-run-door-miscounted m =
       let passed = ap (λ (r : Told). r .answer) write-one ∙ small.write-accepted in
       miscounted (triple-is .1 (tied-meets write-run-door-tie m) .1 .1
-      ∙ read-held _ fresh fresh-held (λ d. writeRunOf d oneWrite .done)
-      ∙ write-run-all fresh oneWrite passed)
+      ∙ read-held _ first fresh-held (λ d. writeRunOf d oneWrite .done)
+      ∙ write-run-all first oneWrite passed)
 
 -- ---- what a door of painting leaves is what is promised of the display's call
 

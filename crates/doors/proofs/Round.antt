@@ -3,10 +3,10 @@
 use mathlib.Core.Path.{_≡_, refl, sym, ap, ap₂, _∙_}
 use mathlib.Core.Bool.{Bool, true, false}
 use mathlib.Core.List.{List, [], _∷_}
-use Prim.Native.Nat.{ℕ, _+_, _*_, _^_, _≤_, _<_}
+use Prim.Native.Nat.{ℕ, _+_, _*_, _%_, _^_, _≤_, _<_}
 use native.Mathlib.Omega.{arith}
 use borrow.Author.Tests.{eq-eqb}
-use lib.Dec.{ltb}
+use lib.Dec.{ltb, eqb}
 use lib.ListN.{length, getD, replicate}
 use Rattle.lists.specs.Choice.{pick}
 use Rattle.lists.specs.Little.{littleAt}
@@ -14,13 +14,15 @@ use Rattle.lists.specs.Bytes.{littleByte, littleBytes}
 use Rattle.lists.specs.Tab.{tab}
 use Rattle.lists.proofs.Tab.{length-tab, is-tab}
 use Rattle.lists.proofs.Little.{word-back}
+use Rattle.profiles.specs.Profile.{profileOf, oneBit}
 use Rattle.words.specs.Image.{wordsFrom}
 use Rattle.display.specs.declared.Display.{Display}
 use Rattle.display.specs.declared.Told.{Told}
-use Rattle.display.specs.State.{display, selectionOf, fresh}
+use Rattle.display.specs.State.{display, selectionOf}
 use Rattle.display.specs.Doors.{stateLen, takenOf, lastWords, stateWords, stateBytes, doorAnswer, doorState}
 use Rattle.display.specs.Doors.{doorBuffer, doorRead}
 use Rattle.display.proofs.DoorLaws.{taken-all, in-pending, in-active, in-last}
+use Rattle.laws.specs.Small.{first}
 use Rattle.doors.specs.Rows.{AreWords, Fits, Holds, Ask, Typed, AllTyped, tellsOf, lentTo, leftBy, countBy}
 use Rattle.doors.specs.Rows.{Seen, seenOf}
 use Rattle.doors.specs.Rows.{stateAfter, seenAfter, bytesAfter, seenByC}
@@ -41,6 +43,10 @@ flag-back : (b : Bool) → b ≡ ltb 0 (pick b 1 0)
 flag-back true = refl
 flag-back false = refl
 
+choice-back : (b : Bool) → b ≡ eqb (pick b 1 0 % 2) 1
+choice-back true = refl
+choice-back false = refl
+
 flag-fits : (b : Bool) → pick b 1 0 < 2 ^ 32
 flag-fits true = omega arith
 flag-fits false = omega arith
@@ -49,36 +55,37 @@ pub taken-back : (d : Display) → Fits d → takenOf (stateBytes d) ≡ d
 unfolding stateBytes lastWords
 taken-back d f =
     let w = stateWords d in
-    let one : (i o v : ℕ) → o ≡ 416 + 4 * i → i < 5 → v ≡ getD w (104 + i) 0 → v < 2 ^ 32
-    → v ≡ littleAt (tab 436 (littleBytes w)) o
-    = λ i o v at b e h. e ∙ sym (word-back w (104 + i) 436 o (omega arith) (omega arith) (rw (← e) h)) in
+    let one : (i o v : ℕ) → o ≡ 416 + 4 * i → i < 6 → v ≡ getD w (104 + i) 0 → v < 2 ^ 32
+    → v ≡ littleAt (tab 440 (littleBytes w)) o
+    = λ i o v at b e h. e ∙ sym (word-back w (104 + i) 440 o (omega arith) (omega arith) (rw (← e) h)) in
     let r = in-last d (f .pending) (f .active) in
     sym (taken-all (stateBytes d) (d .pending) (d .active) (d .frame) (d .errors) (pick (d .selection .made) 1 0)
-    (d .selection .number) (d .selection .place)
-    (words-back w (d .pending) 0 436 0 refl (omega arith) (f .pending) (f .pending-words)
+    (d .selection .number) (d .selection .place) (pick (d .profile .soft) 1 0)
+    (words-back w (d .pending) 0 440 0 refl (omega arith) (f .pending) (f .pending-words)
     (λ i h. in-pending d (f .pending) i h ∙ ap (λ (n : ℕ). getD w n 0) (let q : i ≡ 0 + i = omega arith in q)))
-    (words-back w (d .active) 52 436 208 refl (omega arith) (f .active) (f .active-words)
+    (words-back w (d .active) 52 440 208 refl (omega arith) (f .active) (f .active-words)
     (in-active d (f .pending) (f .active)))
     (one 0 416 (d .frame) refl (omega arith) (r 0) (f .frame))
     (one 1 420 (d .errors) refl (omega arith) (r 1) (f .errors))
     (one 2 424 (pick (d .selection .made) 1 0) refl (omega arith) (r 2) (flag-fits (d .selection .made)))
     (one 3 428 (d .selection .number) refl (omega arith) (r 3) (f .number))
-    (one 4 432 (d .selection .place) refl (omega arith) (r 4) (f .place)))
-    ∙ ap (λ (b : Bool). display (d .pending) (d .active) (d .frame) (d .errors)
-    (selectionOf b (d .selection .number) (d .selection .place)))
-    (sym (flag-back (d .selection .made)))
+    (one 4 432 (d .selection .place) refl (omega arith) (r 4) (f .place))
+    (one 5 436 (pick (d .profile .soft) 1 0) refl (omega arith) (r 5) (flag-fits (d .profile .soft))))
+    ∙ ap₂ (λ (b c : Bool). display (d .pending) (d .active) (d .frame) (d .errors)
+    (selectionOf b (d .selection .number) (d .selection .place)) (profileOf c))
+    (sym (flag-back (d .selection .made))) (sym (choice-back (d .profile .soft)))
 
 pub length-bytes : (d : Display) → length (stateBytes d) ≡ stateLen
 unfolding stateBytes
 length-bytes d = length-tab stateLen (littleBytes (stateWords d))
 
--- zeros are the fresh state
-pub bytes-fresh : stateBytes fresh ≡ replicate stateLen 0
+-- zeros are the fresh state of one bit a glyph pixel
+pub bytes-fresh : stateBytes first ≡ replicate stateLen 0
 unfolding stateBytes stateWords lastWords littleBytes littleByte tab
 bytes-fresh = refl
 
-pub holds-fresh : Holds (replicate stateLen 0) fresh
-holds-fresh = record { bytes = sym bytes-fresh; fits = fresh-fits }
+pub holds-fresh : Holds (replicate stateLen 0) first
+holds-fresh = record { bytes = sym bytes-fresh; fits = fresh-fits oneBit }
 
 -- ---- a door of a state that is held
 

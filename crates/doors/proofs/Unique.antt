@@ -7,9 +7,8 @@ use mathlib.Core.List.{List}
 use denote.Ref.{now}
 use Rattle.lists.specs.Call.{Call, callOf, Tied, OneOutcome}
 use Rattle.lists.proofs.Call.{itself, pair-is, triple-is, quadruple-is, tied-unique}
-use Rattle.answers.specs.Answers.{done}
 use Rattle.words.specs.Fields.{widthOf, heightOf}
-use Rattle.display.specs.State.{fresh, told, writeOf, selectOf, toggleOf, startOf}
+use Rattle.display.specs.State.{newOf, writeOf, selectOf, toggleOf, startOf}
 use Rattle.display.specs.Put.{putOf, putTables}
 use Rattle.display.specs.Runs.{toldBy, putRunOf, putRunTables, writeRunOf}
 use Rattle.display.specs.Paint.{fillTold, fillBytes, paintTold, paintBytes, frameTold, frameBytes}
@@ -33,10 +32,10 @@ use Rattle.display.proofs.doors.spoonwing_display_output_height.Reads as output
 -- ---- doors that write the state alone
 
 -- the state
-abbrev pub newDoor : Call (List ℕ) (ℕ × List ℕ)
-newDoor = callOf new.Post (λ κs i. now (i .0)) (λ κs a e. (a, now (e .0)))
+abbrev pub newDoor : Call (List ℕ × ℕ) (ℕ × List ℕ)
+newDoor = callOf new.Post (λ κs i. (now (i .0), i .1 .0)) (λ κs a e. (a, now (e .0)))
 
-pub new-door-tie : Tied newDoor (λ x. (doorAnswer x (λ d. told fresh done), doorState x (λ d. told fresh done)))
+pub new-door-tie : Tied newDoor (λ x. (doorAnswer (x .0) (λ d. newOf (x .1)), doorState (x .0) (λ d. newOf (x .1))))
 new-door-tie = record { is = λ κs i a e. pair-is }
 
 pub new-door-unique : OneOutcome newDoor

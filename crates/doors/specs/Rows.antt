@@ -3,10 +3,9 @@ use Prim.Native.Nat.{ℕ, _^_, _<_}
 use mathlib.Core.Path.{_≡_}
 use mathlib.Core.List.{List, [], _∷_}
 use lib.ListN.{length, getD}
-use Rattle.answers.specs.Answers.{done}
 use Rattle.display.specs.declared.Display.{Display}
 use Rattle.display.specs.declared.Told.{Told}
-use Rattle.display.specs.State.{fresh, told, writeOf, selectOf, toggleOf, startOf}
+use Rattle.display.specs.State.{newOf, writeOf, selectOf, toggleOf, startOf}
 use Rattle.display.specs.Put.{putOf, putTables}
 use Rattle.display.specs.Runs.{toldBy, putRunOf, putRunTables, writeRunOf}
 use Rattle.display.specs.Paint.{fillTold, fillBytes, paintTold, paintBytes, frameTold, frameBytes}
@@ -38,7 +37,7 @@ pub record Holds (s : List ℕ) (d : Display) : Type 0 where
 
 -- each call that changes a state or a buffer
 pub data Ask : Type 0 where
-  ask-new : Ask
+  ask-new : (bits : ℕ) → Ask
   ask-write : (register value : ℕ) → Ask
   ask-select : (selection : ℕ) → Ask
   ask-toggle : (bits : ℕ) → Ask
@@ -55,7 +54,7 @@ abbrev pub Typed : Ask → Type 0
 Typed (ask-write register value) = value < 2 ^ 32
 Typed (ask-write-run run) = (i : ℕ) → getD run i 0 < 256
 Typed (ask-toggle bits) = bits < 2 ^ 32
-Typed ask-new = Unit {0}
+Typed (ask-new bits) = Unit {0}
 Typed (ask-select selection) = Unit {0}
 Typed ask-start = Unit {0}
 Typed (ask-put tables byte) = Unit {0}
@@ -66,7 +65,7 @@ Typed (ask-frame tables pictures out) = Unit {0}
 
 -- what the display's call answers and leaves of the state
 abbrev pub tellsOf : Ask → Display → Told
-tellsOf ask-new d = told fresh done
+tellsOf (ask-new bits) d = newOf bits
 tellsOf (ask-write register value) d = writeOf d register value
 tellsOf (ask-select selection) d = selectOf d selection
 tellsOf (ask-toggle bits) d = toggleOf d bits
@@ -80,7 +79,7 @@ tellsOf (ask-frame tables pictures out) d = frameTold d tables pictures out
 
 -- the buffer that it writes, as it is lent; none is an empty one
 abbrev pub lentTo : Ask → List ℕ
-lentTo ask-new = []
+lentTo (ask-new bits) = []
 lentTo (ask-write register value) = []
 lentTo (ask-select selection) = []
 lentTo (ask-toggle bits) = []
@@ -94,7 +93,7 @@ lentTo (ask-frame tables pictures out) = out
 
 -- and as the call leaves it
 abbrev pub leftBy : Ask → Display → List ℕ
-leftBy ask-new d = []
+leftBy (ask-new bits) d = []
 leftBy (ask-write register value) d = []
 leftBy (ask-select selection) d = []
 leftBy (ask-toggle bits) d = []
@@ -110,7 +109,7 @@ leftBy (ask-frame tables pictures out) d = frameBytes d tables pictures out
 abbrev pub countBy : Ask → Display → ℕ
 countBy (ask-put-run tables run) d = putRunOf d tables run .done
 countBy (ask-write-run run) d = writeRunOf d run .done
-countBy ask-new d = 0
+countBy (ask-new bits) d = 0
 countBy (ask-write register value) d = 0
 countBy (ask-select selection) d = 0
 countBy (ask-toggle bits) d = 0

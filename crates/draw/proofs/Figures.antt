@@ -9,7 +9,8 @@ use Rattle.lists.specs.Zero.{zeroFrom}
 use Rattle.lists.specs.Little.{littleAt}
 use Rattle.draw.specs.Instruction.{scaleOf}
 use Rattle.draw.specs.Box.{boxAfter, boxOf}
-use Rattle.draw.specs.Text.{charactersOf, glyphRow, pixelOf, inked, rowAfter, stringPixel, textAfter, textOf}
+use Rattle.draw.specs.Text.{charactersOf, bytesFrom, glyphRow, pixelOf, inked, lineInk, rowAfter, stringInk}
+use Rattle.draw.specs.Text.{textAfter, textOf}
 use Rattle.draw.specs.Drawing.{drawnBy, drawnTo, countOf, endedOf, indexAt}
 
 -- opcode op, x 2..5, string n, y 1..3, outline weight 0, box colour 5, text colour 7, scale 1
@@ -38,7 +39,7 @@ abbrev font : List ℕ
 font = 0 ∷ 0 ∷ 0 ∷ 0 ∷ 0 ∷ 0 ∷ 0 ∷ 0 ∷ 129 ∷ 66 ∷ []
 
 abbrev at : List ℕ → ℕ → ℕ → ℕ
-at ins u v = indexAt ins signs font v u
+at ins u v = indexAt 1 ins signs font v u
 
 -- weight 0 fills, and both ends are included
 pub fills : (at (one BOX 0) 3 2 ∷ at (one BOX 0) 5 3 ∷ at (one BOX 0) 2 1 ∷ at (one BOX 0) 5 4 ∷ [])
@@ -48,18 +49,31 @@ fills = refl
 
 -- rows 1 and 2 of the text: its first pixel is at x start, byte 31 leaves its cell, the character
 -- after the zero byte is not shown
-pub letters : (tab 30 (indexAt (one TEXT 0) signs font 1) ≡
+pub letters : (tab 30 (indexAt 1 (one TEXT 0) signs font 1) ≡
     (0 ∷ 0 ∷ 7 ∷ 0 ∷ 0 ∷ 0 ∷ 0 ∷ 0 ∷ 0 ∷ 7 ∷ 0 ∷ 0 ∷ 0 ∷ 0 ∷ 0 ∷ 0 ∷ 0 ∷ 0 ∷ 7 ∷ 0 ∷ 0 ∷ 0 ∷ 0 ∷ 0 ∷ 0 ∷ 7 ∷ 0 ∷ 0 ∷ 0
     ∷ 0 ∷ []))
     × ((at (one TEXT 0) 2 2 ∷ at (one TEXT 0) 3 2 ∷ []) ≡ (0 ∷ 7 ∷ []))
-unfolding tab indexAt countOf zeroFrom drawnTo drawnBy textOf textAfter rowAfter stringPixel charactersOf inked pixelOf
-    glyphRow scaleOf littleAt
+unfolding tab indexAt countOf zeroFrom drawnTo drawnBy textOf textAfter rowAfter stringInk lineInk charactersOf inked
+    pixelOf glyphRow bytesFrom scaleOf littleAt
 letters = (refl, refl)
+
+-- the same with two bits a pixel: of "!" the first two lines are the pixels 0 1 3 3 2 0 0 1 and 3 0 0 0 0 0 0 2, so
+-- that colours 7, 8 and 9 are seen; and in text colour 15 colours 15, 0 and 1
+abbrev softFont : List ℕ
+softFont = 0 ∷ 0 ∷ 0 ∷ 0 ∷ 0 ∷ 0 ∷ 0 ∷ 0 ∷ 0 ∷ 0 ∷ 0 ∷ 0 ∷ 0 ∷ 0 ∷ 0 ∷ 0 ∷ 0x1f ∷ 0x81 ∷ 0xc0 ∷ 0x02 ∷ []
+
+pub soft-letters : (tab 12 (indexAt 2 (one TEXT 0) signs softFont 1) ≡
+    (0 ∷ 0 ∷ 0 ∷ 7 ∷ 9 ∷ 9 ∷ 8 ∷ 0 ∷ 0 ∷ 7 ∷ 0 ∷ 0 ∷ []))
+    × (tab 12 (indexAt 2 (one TEXT 0) signs softFont 2) ≡ (0 ∷ 0 ∷ 9 ∷ 0 ∷ 0 ∷ 0 ∷ 0 ∷ 0 ∷ 0 ∷ 8 ∷ 0 ∷ 0 ∷ []))
+    × ((inked 1 15 5 ∷ inked 2 15 5 ∷ inked 3 15 5 ∷ inked 0 15 5 ∷ []) ≡ (15 ∷ 0 ∷ 1 ∷ 5 ∷ []))
+unfolding tab indexAt countOf zeroFrom drawnTo drawnBy textOf textAfter rowAfter stringInk lineInk charactersOf inked
+    pixelOf glyphRow bytesFrom scaleOf littleAt
+soft-letters = (refl, refl, refl)
 
 -- opcode 14 draws text over its box; a string number above 7 takes only the text away
 pub both-drawn : (at (one BOTH 0) 2 1 ∷ at (one BOTH 0) 3 1 ∷ at (one BOTH 8) 2 1 ∷ []) ≡ (7 ∷ 5 ∷ 5 ∷ [])
-unfolding indexAt countOf zeroFrom drawnTo drawnBy boxOf boxAfter textOf textAfter rowAfter stringPixel charactersOf
-    inked pixelOf glyphRow scaleOf littleAt
+unfolding indexAt countOf zeroFrom drawnTo drawnBy boxOf boxAfter textOf textAfter rowAfter stringInk lineInk
+    charactersOf inked pixelOf glyphRow bytesFrom scaleOf littleAt
 both-drawn = refl
 
 -- what stands after an END is not drawn

@@ -11,7 +11,7 @@ use Rattle.lists.proofs.Zero.{zeroFrom-le}
 use Rattle.tables.specs.Geometry.{instructions, colours}
 use Rattle.draw.specs.Instruction.{opcode}
 use Rattle.draw.specs.Box.{boxAfter, boxOf}
-use Rattle.draw.specs.Text.{inked, rowAfter, textAfter, textOf}
+use Rattle.draw.specs.Text.{inked, lineInk, rowAfter, stringInk, textAfter, textOf}
 use Rattle.draw.specs.Drawing.{drawnBy, drawnTo, countOf, indexAt}
 
 pub countOf-le : (ins : List ℕ) → countOf ins ≤ instructions
@@ -30,25 +30,28 @@ boxOf-lt : (ins : List ℕ) (k v u old : ℕ) → old < colours → boxOf ins k 
 unfolding boxOf boxAfter
 boxOf-lt ins k v u old h = search (pick-lt, mod-colours) depth 8
 
-textOf-lt : (ins strings font : List ℕ) (k v u old : ℕ) → old < colours → textOf ins strings font k v u old < colours
-unfolding textOf textAfter rowAfter inked
-textOf-lt ins strings font k v u old h = search (pick-lt, mod-colours) depth 8
+textOf-lt : (bits : ℕ) (ins strings font : List ℕ) (k v u old : ℕ) → old < colours
+    → textOf bits ins strings font k v u old < colours
+unfolding textOf textAfter rowAfter stringInk lineInk inked
+textOf-lt bits ins strings font k v u old h = search (pick-lt, mod-colours) depth 8
 
-drawnBy-lt : (ins strings font : List ℕ) (k v u old : ℕ) → old < colours → drawnBy ins strings font k v u old < colours
+drawnBy-lt : (bits : ℕ) (ins strings font : List ℕ) (k v u old : ℕ) → old < colours
+    → drawnBy bits ins strings font k v u old < colours
 unfolding drawnBy
-drawnBy-lt ins strings font k v u old h = search (pick-lt, boxOf-lt, textOf-lt) depth 8
+drawnBy-lt bits ins strings font k v u old h = search (pick-lt, boxOf-lt, textOf-lt) depth 8
 
-pub drawnTo-lt : (ins strings font : List ℕ) (n v u : ℕ) → drawnTo ins strings font n v u < colours
+pub drawnTo-lt : (bits : ℕ) (ins strings font : List ℕ) (n v u : ℕ) → drawnTo bits ins strings font n v u < colours
 unfolding drawnTo
-drawnTo-lt ins strings font zero v u = omega arith
-drawnTo-lt ins strings font (suc n) v u = drawnBy-lt ins strings font n v u _ (drawnTo-lt ins strings font n v u)
+drawnTo-lt bits ins strings font zero v u = omega arith
+drawnTo-lt bits ins strings font (suc n) v u = drawnBy-lt bits ins strings font n v u _ (drawnTo-lt bits ins strings font n v u)
 
-pub indexAt-lt : (ins strings font : List ℕ) (v u : ℕ) → indexAt ins strings font v u < colours
+pub indexAt-lt : (bits : ℕ) (ins strings font : List ℕ) (v u : ℕ) → indexAt bits ins strings font v u < colours
 unfolding indexAt
-indexAt-lt ins strings font v u = drawnTo-lt ins strings font (countOf ins) v u
+indexAt-lt bits ins strings font v u = drawnTo-lt bits ins strings font (countOf ins) v u
 
 -- ---- nothing before END
 
-pub indexAt-none : (ins strings font : List ℕ) (v u : ℕ) → countOf ins ≡ 0 → indexAt ins strings font v u ≡ 0
+pub indexAt-none : (bits : ℕ) (ins strings font : List ℕ) (v u : ℕ) → countOf ins ≡ 0
+    → indexAt bits ins strings font v u ≡ 0
 unfolding indexAt drawnTo
-indexAt-none ins strings font v u e = rw e
+indexAt-none bits ins strings font v u e = rw e

@@ -117,12 +117,13 @@ fn show_pictures() {
 }
 
 fn show_toggle() {
-    let a = Display::new().toggle(17);
-    figure(b"error word: ", a.state.error_word());
-    let b = a.state.toggle(16);
-    figure(b"toggled by 16: ", b.state.error_word());
+    let a = Display::new(1);
+    let b = a.state.toggle(17);
+    figure(b"error word: ", b.state.error_word());
     let c = b.state.toggle(16);
-    figure(b"and again: ", c.state.error_word());
+    figure(b"toggled by 16: ", c.state.error_word());
+    let d = c.state.toggle(16);
+    figure(b"and again: ", d.state.error_word());
 }
 
 pub fn show() {

@@ -3,17 +3,18 @@
 ghost use mathlib.Core.Path.{_≡_};
 ghost use lib.ListN.{length};
 
+// The tables of one bit a glyph pixel.
 pub fn tables() -> [u8; 29696]
     ensures { λ r. ⌜ 29696 ≡ length r ⌝ }
 {
     [0; 29696]
 }
 
-// Sixteen bytes more, so that too much can be lent.
-pub fn roomy_tables() -> [u8; 29712]
-    ensures { λ r. ⌜ 29712 ≡ length r ⌝ }
+// Those of two bits a glyph pixel, and sixteen bytes more, so that too much can be lent.
+pub fn roomy_tables() -> [u8; 42000]
+    ensures { λ r. ⌜ 42000 ≡ length r ⌝ }
 {
-    [0; 29712]
+    [0; 42000]
 }
 
 // A screen of 1,024 pixels or its pictures, and sixteen bytes more.

@@ -9,9 +9,10 @@ pub const GLOBAL: u32 = 2147483648;
 
 // A screen of that size, its height in the upper half.
 pub fn screen(size: u32) -> Display {
-    let a = Display::new().write(0, ON);
-    let b = a.state.write(1, size);
-    b.state
+    let a = Display::new(1);
+    let b = a.state.write(0, ON);
+    let c = b.state.write(1, size);
+    c.state
 }
 
 // The same with frame layer 0 all over it.

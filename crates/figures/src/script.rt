@@ -77,7 +77,7 @@ fn read(text: &mut [u8; 20]) -> bool {
 pub fn run(tables: &mut [u8], pictures: &mut [u8], out: &mut [u8]) {
     let mut text = [0u8; 20];
     let mut turns = u64::MAX;
-    let mut s = stage::fresh();
+    let mut s = stage::fresh(1);
     let mut more = read(&mut text);
     while turns > 0 && more {
         s = turn(s, &text, tables, pictures, out);

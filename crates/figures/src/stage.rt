@@ -1,6 +1,6 @@
 // The display of a script with what is lent to it, and what its records do with a and b:
 //
-//     N  a fresh display, zeros in the buffers, whole tables and nothing else lent
+//     N  a fresh display of a bits a glyph pixel, zeros in the buffers, whole tables and nothing else lent
 //     L  lend b bytes of the tables (a is 0), the pictures (1) or the output (any other)
 //     K  fill the tables, I the pictures, D the output, by a pattern from a in steps of b
 //     Q  store the word b at byte a of the tables, J of the pictures
@@ -13,7 +13,7 @@ use crate::record::Record;
 use display::Display;
 use display::Ran;
 use display::Told;
-use tables::TABLES_LEN;
+use tables::tables_len;
 
 // How many bytes are lent, counted from a buffer's front; more than it has is all of it.
 pub struct Lent {
@@ -30,14 +30,24 @@ pub struct Stage {
     pub lent: Lent,
 }
 
-// A fresh display with whole tables and nothing else lent.
-pub fn fresh() -> Stage {
+// The whole tables of a display that is made with so many bits a glyph pixel.
+fn whole_tables(bits: u32) -> u32 {
+    if bits == 2 {
+        return (tables_len(2) % 4294967296) as u32;
+    }
+    (tables_len(1) % 4294967296) as u32
+}
+
+// A fresh display with whole tables and nothing else lent, and what making it answered.
+pub fn fresh(bits: u32) -> Stage {
+    let told = Display::new(bits);
+    let state = told.state;
     Stage {
-        state: Display::new(),
-        answer: 0,
+        state: state,
+        answer: told.answer,
         done: 0,
         lent: Lent {
-            tables: TABLES_LEN as u32,
+            tables: whole_tables(bits),
             pictures: 0,
             out: 0,
         },
@@ -180,17 +190,17 @@ fn run(
 }
 
 // A fresh display, and zeros in every buffer.
-fn renew(tables: &mut [u8], pictures: &mut [u8], out: &mut [u8]) -> Stage {
+fn renew(bits: u32, tables: &mut [u8], pictures: &mut [u8], out: &mut [u8]) -> Stage {
     buffers::fill(tables, 0, 0, false);
     buffers::fill(pictures, 0, 0, false);
     buffers::fill(out, 0, 0, false);
-    fresh()
+    fresh(bits)
 }
 
 // The stage after a record. A letter that means nothing changes nothing.
 pub fn play(s: Stage, r: Record, tables: &mut [u8], pictures: &mut [u8], out: &mut [u8]) -> Stage {
     if r.letter == b'N' {
-        return renew(tables, pictures, out);
+        return renew(r.a, tables, pictures, out);
     }
     change(r, tables, pictures, out);
     let lent = lend(s.lent, r);

@@ -13,6 +13,7 @@ use Rattle.lists.proofs.Choice.{both-left, both-right, either-left, refuses-not
 use Rattle.lists.proofs.Choice.{orElse-right, orElse-none}
 use Rattle.lists.proofs.Run.{run-none}
 use Rattle.lists.proofs.Tab.{length-tab, getD-tab, length-each, each-id}
+use Rattle.profiles.specs.Profile.{bitsOf}
 use Rattle.words.specs.Fields.{shownOf, widthOf, heightOf, layerOf}
 use Rattle.words.specs.Pictures.{picturesLen}
 use Rattle.tables.specs.Geometry.{tablesLen}
@@ -26,12 +27,12 @@ use Rattle.frames.specs.Frame.{frameOf, frameAfter}
 -- ---- what passes
 
 -- the words, the band and the lengths that paint takes
-pub record Fits (w : List ℕ) (a b out tables pictures : ℕ) : Type 0 where
+pub record Fits (bits : ℕ) (w : List ℕ) (a b out tables pictures : ℕ) : Type 0 where
   pub low : a ≤ b
   pub high : b ≤ 8
   pub wide : 0 < widthOf w
   pub long : out ≡ frameLen w
-  pub lent : tables ≡ tablesLen
+  pub lent : tables ≡ tablesLen bits
   pub shown : pictures ≡ picturesLen w
 
 pub size-wide : (w : List ℕ) → sizeRefusal w ≡ 0 → 0 < widthOf w
@@ -40,10 +41,10 @@ size-wide w e =
     → ⊥ = eqb-false (widthOf w) 0
     (either-left (eqb (widthOf w) 0) (eqb (heightOf w) 0) (refuses-not _ 11 0 e .0)) in omega arith
 
-pub paint-fits : (w : List ℕ) (a b out tables pictures : ℕ) → paintRefusal w a b out tables pictures ≡ 0
-    → Fits w a b out tables pictures
+pub paint-fits : (bits : ℕ) (w : List ℕ) (a b out tables pictures : ℕ)
+    → paintRefusal bits w a b out tables pictures ≡ 0 → Fits bits w a b out tables pictures
 unfolding paintRefusal
-paint-fits w a b out tables pictures e =
+paint-fits bits w a b out tables pictures e =
     let band = lets-through (both (leb a b) (leb b 8)) 14 (orElse-left (bandRefusal a b) _ e) in
     let p = orElse-right (bandRefusal a b) _ e in
     let q = orElse-right (sizeRefusal w) _ p in
@@ -53,8 +54,9 @@ paint-fits w a b out tables pictures e =
       high = leb-true b 8 (both-right (leb a b) (leb b 8) band);
       wide = size-wide w (orElse-left (sizeRefusal w) _ p);
       long = eqb-true _ _ (lets-through (eqb out (frameLen w)) 12 (orElse-left (outputRefusal w out) _ q));
-      lent = eqb-true _ _ (lets-through (eqb tables tablesLen) 5 (orElse-left (tablesRefusal tables) _ r));
-      shown = eqb-true _ _ (lets-through (eqb pictures (picturesLen w)) 13 (orElse-right (tablesRefusal tables) _ r));
+      lent = eqb-true _ _ (lets-through (eqb tables (tablesLen bits)) 5 (orElse-left (tablesRefusal bits tables) _ r));
+      shown =
+          eqb-true _ _ (lets-through (eqb pictures (picturesLen w)) 13 (orElse-right (tablesRefusal bits tables) _ r));
     }
 
 pub fill-long : (w : List ℕ) (out : ℕ) → fillRefusal w out ≡ 0 → out ≡ frameLen w
@@ -85,7 +87,7 @@ unfolding frameAfter
 length-frameAfter s out = go (eqb (refusalOf s 0 8 out) 0) (eqb-true _ _)
   where
     go : (t : Bool) → (t ≡ true → refusalOf s 0 8 out ≡ 0) → length (choose t (frameOf s) out) ≡ length out
-    go true f = length-frameOf s ∙ sym (paint-fits _ _ _ _ _ _ (f refl) .long)
+    go true f = length-frameOf s ∙ sym (paint-fits _ _ _ _ _ _ _ (f refl) .long)
     go false f = refl
 
 -- ---- alpha
@@ -138,10 +140,10 @@ layerStep-off w step d n p e = rw e
 
 -- ---- a frame is a fill and band 0..8
 
-paint-fill : (w : List ℕ) (a b out tables pictures : ℕ) → paintRefusal w a b out tables pictures ≡ 0
-    → fillRefusal w out ≡ 0
+paint-fill : (bits : ℕ) (w : List ℕ) (a b out tables pictures : ℕ)
+    → paintRefusal bits w a b out tables pictures ≡ 0 → fillRefusal w out ≡ 0
 unfolding paintRefusal fillRefusal
-paint-fill w a b out tables pictures e =
+paint-fill bits w a b out tables pictures e =
     let p = orElse-right (bandRefusal a b) _ e in
     let q = orElse-right (sizeRefusal w) _ p in
     orElse-none (sizeRefusal w) (outputRefusal w out) (orElse-left (sizeRefusal w) _ p)
@@ -150,13 +152,13 @@ paint-fill w a b out tables pictures e =
 module _ (s : Scene) (out : List ℕ) (e : refusalOf s 0 8 out ≡ 0) where
   pub fill-is : fillAfter (s .words) out ≡ fillOf (s .words)
   unfolding fillAfter
-  fill-is = rw (eq-eqb _ 0 (paint-fill _ _ _ _ _ _ e))
+  fill-is = rw (eq-eqb _ 0 (paint-fill _ _ _ _ _ _ _ e))
 
   -- the filled output is as long, so it passes as well
   again : refusalOf s 0 8 (fillOf (s .words)) ≡ 0
   again =
-      ap (λ (n : ℕ). paintRefusal (s .words) 0 8 n (length (s .tables)) (length (s .pictures)))
-      (length-fillOf (s .words) ∙ sym (paint-fits _ _ _ _ _ _ e .long)) ∙ e
+      ap (λ (n : ℕ). paintRefusal (bitsOf (s .profile)) (s .words) 0 8 n (length (s .tables)) (length (s .pictures)))
+      (length-fillOf (s .words) ∙ sym (paint-fits _ _ _ _ _ _ _ e .long)) ∙ e
 
   pub frameAfter-is : frameAfter s out ≡ paintAfter s 0 8 (fillAfter (s .words) out)
   unfolding frameAfter frameOf paintAfter

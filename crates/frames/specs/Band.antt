@@ -9,6 +9,7 @@ use Rattle.lists.specs.Choice.{pick, choose, both}
 use Rattle.lists.specs.Runs.{run}
 use Rattle.lists.specs.Tab.{each}
 use Rattle.mix.specs.Pixel.{pixelLen, alphaPlace}
+use Rattle.profiles.specs.Profile.{bitsOf}
 use Rattle.words.specs.Fields.{shownOf, widthOf, layerOf}
 use Rattle.words.specs.Order.{here}
 use Rattle.tables.specs.Geometry.{listKind}
@@ -53,7 +54,8 @@ bandOf s a b out = choose (shownOf (s .words)) (each (bandByte s a b) out) out
 -- 01 "Graphics layers": "No END means that painting the layer sets error bit 4n (000)."
 unfoldable pub missing : Scene → ℕ → Bool
 missing s n =
-    both (layerOf (s .words) n .graphics) (not (endedOf (bankBytes (s .words) (s .tables) n listKind)))
+    both (layerOf (s .words) n .graphics)
+    (not (endedOf (bankBytes (bitsOf (s .profile)) (s .words) (s .tables) n listKind)))
 
 -- the error word after painting layer n
 unfoldable pub markAt : Scene → ℕ → ℕ → ℕ

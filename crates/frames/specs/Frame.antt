@@ -7,13 +7,14 @@ use Rattle.lists.specs.Choice.{pick, choose, both, either, orElse}
 use Rattle.lists.specs.Tab.{tab}
 use Rattle.answers.specs.Answers.{done, tablesLength, noSize, outputLength, picturesLength, noBand}
 use Rattle.mix.specs.Pixel.{pixelLen, alphaPlace, opaque}
+use Rattle.profiles.specs.Profile.{bitsOf}
 use Rattle.words.specs.Fields.{widthOf, heightOf, groundOf}
 use Rattle.words.specs.Pictures.{picturesLen}
 use Rattle.tables.specs.Geometry.{tablesLen}
 use Rattle.frames.specs.Scene.{Scene}
 use Rattle.frames.specs.Band.{bandOf, errorsOf}
 
--- ---- refusals: of the words, the band's ends, and the lengths of output, tables and pictures
+-- ---- refusals: of the bits a glyph pixel has, the words, the band's ends, and the lengths of output, tables and pictures
 
 -- 15: "lower end above upper, or upper above 8"
 abbrev pub bandRefusal : ℕ → ℕ → ℕ
@@ -31,9 +32,9 @@ frameLen w = pixelLen * (widthOf w * heightOf w)
 abbrev pub outputRefusal : List ℕ → ℕ → ℕ
 outputRefusal w out = pick (eqb out (frameLen w)) done outputLength
 
--- 6: "tables not 29,696 bytes"
-abbrev pub tablesRefusal : ℕ → ℕ
-tablesRefusal tables = pick (eqb tables tablesLen) done tablesLength
+-- 6: "tables not 29,696 bytes"; 02 K2: "6 compares with the chosen length"
+abbrev pub tablesRefusal : ℕ → ℕ → ℕ
+tablesRefusal bits tables = pick (eqb tables (tablesLen bits)) done tablesLength
 
 -- 14: "pictures of the wrong total length"
 abbrev pub picturesRefusal : List ℕ → ℕ → ℕ
@@ -44,15 +45,16 @@ unfoldable pub fillRefusal : List ℕ → ℕ → ℕ
 fillRefusal w out = orElse (sizeRefusal w) (outputRefusal w out)
 
 -- "Paint 15, 12, 13, 6, 14."
-unfoldable pub paintRefusal : List ℕ → ℕ → ℕ → ℕ → ℕ → ℕ → ℕ
-paintRefusal w a b out tables pictures =
+unfoldable pub paintRefusal : ℕ → List ℕ → ℕ → ℕ → ℕ → ℕ → ℕ → ℕ
+paintRefusal bits w a b out tables pictures =
     orElse (bandRefusal a b)
     (orElse (sizeRefusal w)
-    (orElse (outputRefusal w out) (orElse (tablesRefusal tables) (picturesRefusal w pictures))))
+    (orElse (outputRefusal w out) (orElse (tablesRefusal bits tables) (picturesRefusal w pictures))))
 
 -- of a scene and an output
 abbrev pub refusalOf : Scene → ℕ → ℕ → List ℕ → ℕ
-refusalOf s a b out = paintRefusal (s .words) a b (length out) (length (s .tables)) (length (s .pictures))
+refusalOf s a b out =
+    paintRefusal (bitsOf (s .profile)) (s .words) a b (length out) (length (s .tables)) (length (s .pictures))
 
 -- ---- fill: a refusal leaves "all unchanged"
 

@@ -9,6 +9,7 @@ use Rattle.lists.specs.Choice.{pick, both}
 use Rattle.mix.specs.Pixel.{pixelLen, alphaPlace}
 use Rattle.mix.specs.Blend.{blendOf}
 use Rattle.mix.specs.Fade.{fadeOf}
+use Rattle.profiles.specs.Profile.{bitsOf}
 use Rattle.words.specs.declared.fields.Layer.{Layer}
 use Rattle.words.specs.Fields.{layerOf}
 use Rattle.words.specs.Pictures.{pictureStart}
@@ -20,19 +21,20 @@ use Rattle.frames.specs.Scene.{Scene}
 -- ---- what a layer shows in row v and column u: "Coordinates u, v count from the layer's corner (house)."
 
 -- 01 "Tables": "controller g (which serves layer g)". The table of a kind in the bank that word 3 names
--- for layer n's controller, which is n
-unfoldable pub bankBytes : List ℕ → List ℕ → ℕ → ℕ → List ℕ
-bankBytes w tables n kind = take (kindLen kind) (drop (activeAt w n kind) tables)
+-- for layer n's controller, which is n; where it stands and how long it is goes by the bits a glyph pixel has
+unfoldable pub bankBytes : ℕ → List ℕ → List ℕ → ℕ → ℕ → List ℕ
+bankBytes bits w tables n kind = take (kindLen bits kind) (drop (activeAt bits w n kind) tables)
 
 -- 01 "Graphics layers": the colour index after the list
-unfoldable pub colourIndex : List ℕ → List ℕ → ℕ → ℕ → ℕ → ℕ
-colourIndex w tables n v u =
-    indexAt (bankBytes w tables n listKind) (bankBytes w tables n stringsKind) (bankBytes w tables n fontKind) v u
+unfoldable pub colourIndex : ℕ → List ℕ → List ℕ → ℕ → ℕ → ℕ → ℕ
+colourIndex bits w tables n v u =
+    indexAt bits (bankBytes bits w tables n listKind) (bankBytes bits w tables n stringsKind)
+    (bankBytes bits w tables n fontKind) v u
 
 -- "The colour table gives channel 0, 1, 2, alpha for an index (000)."
-unfoldable pub graphicsAt : List ℕ → List ℕ → ℕ → ℕ → ℕ → ℕ → ℕ
-graphicsAt w tables n v u c =
-    getD (bankBytes w tables n coloursKind) (colourLen * colourIndex w tables n v u + c) 0
+unfoldable pub graphicsAt : ℕ → List ℕ → List ℕ → ℕ → ℕ → ℕ → ℕ → ℕ
+graphicsAt bits w tables n v u c =
+    getD (bankBytes bits w tables n coloursKind) (colourLen * colourIndex bits w tables n v u + c) 0
 
 -- 01 "Painting": a picture has "4·width·height bytes in raster order"
 unfoldable pub pictureAt : Scene → ℕ → ℕ → ℕ → ℕ → ℕ
@@ -42,7 +44,7 @@ pictureAt s n v u c =
 -- place c of layer n
 unfoldable pub ownAt : Scene → ℕ → ℕ → ℕ → ℕ → ℕ
 ownAt s n v u c =
-    pick (layerOf (s .words) n .graphics) (graphicsAt (s .words) (s .tables) n v u c) (pictureAt s n v u c)
+    pick (layerOf (s .words) n .graphics) (graphicsAt (bitsOf (s .profile)) (s .words) (s .tables) n v u c) (pictureAt s n v u c)
 
 -- the fade's value of a layer at a frame number
 abbrev pub fadedOf : ℕ → Layer → ℕ

@@ -9,15 +9,17 @@ use lib.Dec.{eqb}
 use lib.ListN.{length}
 use Rattle.lists.specs.Choice.{pick, either, orElse}
 use Rattle.lists.specs.Runs.{firstOf}
-use Rattle.lists.proofs.Choice.{orElse-left, orElse-right}
-use Rattle.answers.specs.Answers.{done, emptyScreen, noSize, imageLength}
+use Rattle.lists.proofs.Choice.{either-any, orElse-left, orElse-right}
+use Rattle.answers.specs.Answers.{done, tablesLength, emptyScreen, noSize, imageLength}
+use Rattle.profiles.specs.Profile.{bitsOf}
 use Rattle.words.specs.Fields.{widthOf, heightOf}
 use Rattle.words.specs.Check.{reservedAt, screenOf, checkOf}
+use Rattle.tables.specs.Geometry.{tablesLen}
 use Rattle.paint.specs.declared.Painted.{Painted}
 use Rattle.paint.specs.Painted.{answered}
 use Rattle.frames.specs.Frame.{sizeRefusal, outputRefusal, tablesRefusal, picturesRefusal, paintRefusal, refusalOf}
 use Rattle.frames.specs.Frame.{frameAfter}
-use Rattle.host.specs.Host.{wordsOf, sceneIn, hostAnswer, hostOutput}
+use Rattle.host.specs.Host.{wordsOf, profileFor, sceneIn, hostAnswer, hostOutput}
 
 -- ---- the cases
 
@@ -65,11 +67,23 @@ check-sized w e =
     sized false true e = absurd (let z : ⊥ = omega arith in z)
     sized false false e = refl
 
+-- "6 compares .. in the host entry with both"
+pub host-tables : (n : ℕ) → tablesRefusal (bitsOf (profileFor n)) n
+    ≡ pick (either (eqb n (tablesLen 1)) (eqb n (tablesLen 2))) done tablesLength
+host-tables n = go (eqb n (tablesLen 2)) (eqb n (tablesLen 1)) refl refl
+  where
+    go : (s t : Bool) → eqb n (tablesLen 2) ≡ s → eqb n (tablesLen 1) ≡ t
+        → pick (eqb n (tablesLen (pick s 2 1))) done tablesLength ≡ pick (either t s) done tablesLength
+    go true t p q = rw (p, either-any t)
+    go false true p q = rw q
+    go false false p q = rw q
+
 pub host-order : (image : List ℕ) (frame : ℕ) (tables pictures out : List ℕ) → length image ≡ 208
     → checkOf (wordsOf image) ≡ 0
     → hostAnswer image frame tables pictures out
     ≡ orElse (outputRefusal (wordsOf image) (length out))
-    (orElse (tablesRefusal (length tables)) (picturesRefusal (wordsOf image) (length pictures)))
+    (orElse (tablesRefusal (bitsOf (profileFor (length tables))) (length tables))
+    (picturesRefusal (wordsOf image) (length pictures)))
 unfolding paintRefusal
 host-order image frame tables pictures out long e =
     checked image frame tables pictures out long 0 (sym e) ∙ rw (check-sized (wordsOf image) e)

@@ -5,8 +5,11 @@ use lib.ListN.{length}
 use lib.Dec.{eqb}
 use Rattle.lists.specs.Choice.{pick, choose, orElse}
 use Rattle.answers.specs.Answers.{done, imageLength}
+use Rattle.profiles.specs.declared.Profile.{Profile}
+use Rattle.profiles.specs.Profile.{profileOf}
 use Rattle.words.specs.Check.{checkOf}
 use Rattle.words.specs.Image.{wordsFrom}
+use Rattle.tables.specs.Geometry.{tablesLen}
 use Rattle.frames.specs.Scene.{Scene, sceneOf}
 use Rattle.frames.specs.Frame.{refusalOf, frameOf}
 
@@ -15,13 +18,18 @@ use Rattle.frames.specs.Frame.{refusalOf, frameOf}
 abbrev pub wordsOf : List ℕ → List ℕ
 wordsOf image = wordsFrom image 0
 
+-- 02 K2: "the host entry goes by the table length": a glyph pixel has two bits where the tables are as long as those ask
+abbrev pub profileFor : ℕ → Profile
+profileFor tables = profileOf (eqb tables (tablesLen 2))
+
 -- what it paints from: the image's words for the active ones, and the frame number as given
 abbrev pub sceneIn : List ℕ → ℕ → List ℕ → List ℕ → Scene
-sceneIn image frame tables pictures = sceneOf (wordsOf image) frame tables pictures
+sceneIn image frame tables pictures = sceneOf (profileFor (length tables)) (wordsOf image) frame tables pictures
 
 -- "The image counts as active once checked as at a start, without regard to the update bit. Order 16,
 -- 7, 8, 9 and 10, 11, 13, 6, 14.": the check has 7 to 11, and a frame's refusals are 13, 6, 14 once its
--- words have passed (`host-order`)
+-- words have passed (`host-order`); 02 K2: "6 compares with the chosen length, in the host entry with both."
+-- (`host-tables`)
 unfoldable pub hostAnswer : List ℕ → ℕ → List ℕ → List ℕ → List ℕ → ℕ
 hostAnswer image frame tables pictures out =
     orElse (pick (eqb (length image) 208) done imageLength)

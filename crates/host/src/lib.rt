@@ -1,14 +1,25 @@
 // The one entry for a C host: a whole frame from a register image, with no state between calls.
 ghost use mathlib.Core.Path.{_≡_};
-ghost use Rattle.host.specs.Host.{hostAnswer, hostOutput};
+ghost use Rattle.host.specs.Host.{profileFor, hostAnswer, hostOutput};
 use answers::DONE;
 use answers::IMAGE_LENGTH;
+use profiles::Profile;
 use starts::refusal_of;
+use tables::tables_len;
 use words::image::IMAGE_LEN;
 use words::image::words_at;
 
+// What the tables' length says of their font.
+fn profile_for(long: usize) -> Profile
+    ensures { λ r. ⌜ r ≡ profileFor long ⌝ }
+{
+    let soft = long == tables_len(2);
+    Profile { soft }
+}
+
 // Paints a whole frame of the image's words at a frame number. Answers 0, or the first of 16, 7, 8, 9
-// and 10 of each layer, 11, 13, 6, 14; a refusal leaves `output`. Error bits are dropped.
+// and 10 of each layer, 11, 13, 6, 14; a refusal leaves `output`. Error bits are dropped. A glyph's pixel has
+// one bit or two, as the tables are long.
 #[no_mangle]
 pub extern "C" fn spoonwing_frame(
     image: &[u8],
@@ -30,6 +41,7 @@ pub extern "C" fn spoonwing_frame(
     if refusal != DONE {
         return refusal as u32;
     }
-    let painted = paint::frame(&words, frame, 0, tables, pictures, output);
+    let profile = profile_for(tables.len());
+    let painted = paint::frame(profile, &words, frame, 0, tables, pictures, output);
     painted.answer as u32
 }

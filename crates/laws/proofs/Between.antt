@@ -13,6 +13,7 @@ use Rattle.lists.proofs.Tab.{getD-part}
 use Rattle.mix.proofs.BlendLaws.{blendOf-le, blendOf-ge}
 use Rattle.mix.proofs.FadeLaws.{fadeOf-le}
 use Rattle.words.specs.Fields.{groundOf, layerOf}
+use Rattle.profiles.specs.Profile.{bitsOf}
 use Rattle.tables.specs.Geometry.{colourLen, kindLen}
 use Rattle.tables.specs.Selection.{activeAt}
 use Rattle.frames.specs.Scene.{Scene}
@@ -39,11 +40,11 @@ part-le l o n i b = ⊎-elim
 module _ (s : Scene) (tables : AreBytes (s .tables)) (pictures : AreBytes (s .pictures)) where
   -- ---- alphas and channels are bytes
 
-  graphics-le : (n u v c : ℕ) → graphicsAt (s .words) (s .tables) n v u c ≤ 255
+  graphics-le : (n u v c : ℕ) → graphicsAt (bitsOf (s .profile)) (s .words) (s .tables) n v u c ≤ 255
   unfolding graphicsAt bankBytes
   graphics-le n u v c =
-      part-le (s .tables) (activeAt (s .words) n 1) (kindLen 1)
-      (colourLen * colourIndex (s .words) (s .tables) n v u + c) tables
+      part-le (s .tables) (activeAt (bitsOf (s .profile)) (s .words) n 1) (kindLen (bitsOf (s .profile)) 1)
+      (colourLen * colourIndex (bitsOf (s .profile)) (s .words) (s .tables) n v u + c) tables
 
   own-le : (n u v c : ℕ) → ownAt s n v u c ≤ 255
   unfolding ownAt pictureAt

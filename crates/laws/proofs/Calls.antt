@@ -14,7 +14,7 @@ use Rattle.frames.specs.Frame.{refusalOf, frameOf, frameAfter}
 use Rattle.display.specs.declared.Display.{Display}
 use Rattle.display.specs.State.{withActive}
 use Rattle.display.specs.Paint.{sceneWith, frameBytes}
-use Rattle.host.specs.Host.{wordsOf, sceneIn, hostAnswer, hostOutput}
+use Rattle.host.specs.Host.{wordsOf, profileFor, sceneIn, hostAnswer, hostOutput}
 use Rattle.laws.specs.Painting.{Ready, Framing, Hosting, OnScreen, channelIn, channelAt, Neighbours, exchanged}
 use Rattle.laws.specs.Painting.{OpaqueAt, OtherUnder, Clear, withOff, withoutPicture, without, AreBytes}
 use Rattle.laws.specs.Painting.{Between}
@@ -57,7 +57,7 @@ exchange-host image image′ frame t p o i j f q long e =
     let g : Hosting image′ frame t p o =
     record { long = long; ready = rw e (x .0); output = rw (e, same) (f .output) } in (
       g,
-      host-bytes image′ frame t p o g ∙ ap (λ (w : List ℕ). frameOf (sceneOf w frame t p)) e ∙ x .1
+      host-bytes image′ frame t p o g ∙ ap (λ (w : List ℕ). frameOf (sceneOf (profileFor (length t)) w frame t p)) e ∙ x .1
           ∙ sym (host-bytes image frame t p o f),
     )
 
@@ -112,7 +112,7 @@ invisible-host image image′ frame t p o n hn f clear long e =
     let g : Hosting image′ frame t q o =
     record { long = long; ready = rw e (x .0); output = rw (e, same) (f .output) } in (
       g,
-      host-bytes image′ frame t q o g ∙ ap (λ (w : List ℕ). frameOf (sceneOf w frame t q)) e ∙ x .1
+      host-bytes image′ frame t q o g ∙ ap (λ (w : List ℕ). frameOf (sceneOf (profileFor (length t)) w frame t q)) e ∙ x .1
           ∙ sym (host-bytes image frame t p o f),
     )
 

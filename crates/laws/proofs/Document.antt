@@ -6,16 +6,15 @@ use mathlib.Core.List.{List, [], _∷_, _++_}
 use borrow.Author.Tests.{eq-eqb}
 use lib.ListN.{length}
 use Rattle.tables.specs.Geometry.{tablesLen}
-use Rattle.display.specs.State.{fresh}
 use Rattle.line.specs.Line.{lineOf}
 use Rattle.lines.specs.Sheet.{linesFrom, linesOf, sheetOf, programOf}
 use Rattle.laws.specs.Figures.{documentLine, documentReply}
-use Rattle.laws.specs.Small.{blank}
+use Rattle.laws.specs.Small.{first, blank}
 use Rattle.laws.proofs.Small.{lineOpen, blank-long}
 
 -- a first line, with any tables of the right length
-pub lineOf-document : (t : List ℕ) → length t ≡ tablesLen
-    → lineOf fresh t documentLine .printed ≡ documentReply ++ 10 ∷ []
+pub lineOf-document : (t : List ℕ) → length t ≡ tablesLen 1
+    → lineOf first t documentLine .printed ≡ documentReply ++ 10 ∷ []
 unfolding lineOpen
 lineOf-document t long = rw (eq-eqb _ _ long)
 

@@ -13,24 +13,26 @@ use Rattle.lists.specs.Little.{littleAt}
 use Rattle.lists.specs.Over.{over}
 use Rattle.lists.specs.Steps.{through, keep}
 use Rattle.lists.proofs.Call.{pair-is, tied-meets}
-use Rattle.answers.specs.Answers.{done}
+use Rattle.answers.specs.Answers.{done, glyphBits}
 use Rattle.words.specs.Order.{layersAt, layersBelow, orderOf, bandLayers}
-use Rattle.tables.specs.Geometry.{tablesLen, kindAt}
+use Rattle.profiles.specs.Profile.{oneBit, twoBits}
+use Rattle.tables.specs.Geometry.{tablesLen, bankLen, kindAt}
 use Rattle.frames.specs.Scene.{Scene}
 use Rattle.frames.specs.Band.{pixelAt, bandByte, bandOf}
 use Rattle.display.specs.declared.Told.{Told}
 use Rattle.display.specs.declared.Ran.{Ran}
-use Rattle.display.specs.State.{fresh, writeOf}
+use Rattle.display.specs.declared.Display.{Display}
+use Rattle.display.specs.State.{bitsIn, fresh, told, writeOf}
 use Rattle.display.specs.Runs.{ran, toldBy, writeRunOf}
 use Rattle.display.proofs.PutLaws.{put-done}
-use Rattle.display.proofs.Unique.{writeCall, selectCall, toggleCall, startCall, putCall, fillCall, paintCall, frameCall}
-use Rattle.display.proofs.Unique.{write-tie, select-tie, toggle-tie, start-tie, put-tie, fill-tie, paint-tie, frame-tie}
-use Rattle.display.proofs.Unique.{putRunCall, writeRunCall, put-run-tie, write-run-tie}
+use Rattle.display.proofs.Unique.{newCall, writeCall, selectCall, toggleCall, startCall, putCall, fillCall, paintCall}
+use Rattle.display.proofs.Unique.{frameCall, new-tie, write-tie, select-tie, toggle-tie, start-tie, put-tie, fill-tie}
+use Rattle.display.proofs.Unique.{paint-tie, frame-tie, putRunCall, writeRunCall, put-run-tie, write-run-tie}
 use Rattle.host.proofs.Unique.{hostCall, host-tie}
 use Rattle.line.specs.Sizes.{mostPrinted}
 use Rattle.line.specs.Line.{zeros}
 use Rattle.lines.specs.Sizes.{outLen}
-use Rattle.laws.specs.Small.{grey, night, written, started, sizeless, selecting, blank, filled, white, clear, dim}
+use Rattle.laws.specs.Small.{first, grey, night, written, started, sizeless, selecting, blank, filled, white, clear, dim}
 use Rattle.laws.specs.Small.{bright, image, line, page, printed, replyWith, Paints, Frames, Hosts, Prints}
 use Rattle.laws.specs.Small.{oneWrite, Finishes, Feeds}
 use Rattle.laws.specs.Impostors.{TurnsDown, PrintsDown, untouched, andNot, stoppedStart, Rule, paintedBy}
@@ -52,18 +54,21 @@ refused : {t u : Told} → u .answer ≡ done → TurnsDown (t .answer) → t �
 refused accepted down e = down (ap (λ (r : Told). r .answer) e ∙ accepted)
 
 -- what it answers and leaves
-pub write-one : toldBy (writeRunOf fresh oneWrite) ≡ writeOf fresh 0 1
+pub write-one : toldBy (writeRunOf first oneWrite) ≡ writeOf first 0 1
 unfolding littleAt
-write-one = write-run-one fresh oneWrite refl
+write-one = write-run-one first oneWrite refl
 
 module _ (t : Told) (down : TurnsDown (t .answer)) where
-  pub write-down : Meets writeCall (fresh, 0, 1) t → ⊥
+  pub new-down : Meets newCall 1 t → ⊥
+  new-down m = refused refl down (tied-meets new-tie m)
+
+  pub write-down : Meets writeCall (first, 0, 1) t → ⊥
   write-down m = refused small.write-accepted down (tied-meets write-tie m)
 
-  pub select-down : Meets selectCall (fresh, 1) t → ⊥
+  pub select-down : Meets selectCall (first, 1) t → ⊥
   select-down m = refused small.select-accepted down (tied-meets select-tie m)
 
-  pub toggle-down : Meets toggleCall (fresh, 1) t → ⊥
+  pub toggle-down : Meets toggleCall (first, 1) t → ⊥
   toggle-down m = refused small.toggle-accepted down (tied-meets toggle-tie m)
 
   pub start-down : Meets startCall (written grey) t → ⊥
@@ -79,7 +84,7 @@ module _ (t : Told) (down : TurnsDown (t .answer)) where
       refused small.put-accepted down
       (ap toldBy (pair-is .1 (tied-meets put-run-tie m) .0) ∙ put-run-one selecting blank 7 .0)
 
-  pub write-run-down : (n : ℕ) → Meets writeRunCall (fresh, oneWrite) (ran (t .state) (t .answer) n) → ⊥
+  pub write-run-down : (n : ℕ) → Meets writeRunCall (first, oneWrite) (ran (t .state) (t .answer) n) → ⊥
   write-run-down n m = refused small.write-accepted down (ap toldBy (tied-meets write-run-tie m) ∙ write-one)
 
   pub fill-down : (out : List ℕ) → Meets fillCall (started grey, filled) (t, out) → ⊥
@@ -155,15 +160,15 @@ module _ (fixed : List ℕ) where
 
 -- ---- "one that touches nothing"
 
-pub write-untouched : Meets writeCall (fresh, 0, 1) (untouched fresh) → ⊥
+pub write-untouched : Meets writeCall (first, 0, 1) (untouched first) → ⊥
 write-untouched m =
     apart (λ (t : Told). getD (t .state .pending) 0 0) (λ (z : 0 ≡ 1). omega arith) (tied-meets write-tie m)
 
-pub select-untouched : Meets selectCall (fresh, 1) (untouched fresh) → ⊥
+pub select-untouched : Meets selectCall (first, 1) (untouched first) → ⊥
 select-untouched m =
     apart (λ (t : Told). t .state .selection .number) (λ (z : 0 ≡ 1). omega arith) (tied-meets select-tie m)
 
-pub toggle-untouched : Meets toggleCall (fresh, 1) (untouched fresh) → ⊥
+pub toggle-untouched : Meets toggleCall (first, 1) (untouched first) → ⊥
 toggle-untouched m = apart (λ (t : Told). t .state .errors) (λ (z : 0 ≡ 1). omega arith) (tied-meets toggle-tie m)
 
 pub start-untouched : Meets startCall (written grey) (untouched (written grey)) → ⊥
@@ -173,7 +178,7 @@ start-untouched m = apart (λ (t : Told). t .state .frame) (λ (z : 0 ≡ 1). om
 -- neither the state nor the tables stay as they were
 pub put-untouched : ((tables : List ℕ) → Meets putCall (selecting, blank, 7) (untouched selecting, tables) → ⊥)
     × ((t : Told) → Meets putCall (selecting, blank, 7) (t, blank) → ⊥)
-unfolding kindAt
+unfolding kindAt tablesLen bankLen
 put-untouched =
     let stored = put-done selecting blank 7 small.put-passes in (
       λ tables m. apart (λ (t : Told). t .state .selection .place) (λ (z : 0 ≡ 1). omega arith)
@@ -192,7 +197,7 @@ put-run-untouched n tables m =
     (ap toldBy (pair-is .1 (tied-meets put-run-tie m) .0) ∙ put-run-one selecting blank 7 .0
     ∙ sym (put-done selecting blank 7 small.put-passes .0))
 
-pub write-run-untouched : (n : ℕ) → Meets writeRunCall (fresh, oneWrite) (ran fresh done n) → ⊥
+pub write-run-untouched : (n : ℕ) → Meets writeRunCall (first, oneWrite) (ran first done n) → ⊥
 write-run-untouched n m =
     apart (λ (t : Told). getD (t .state .pending) 0 0) (λ (z : 0 ≡ 1). omega arith)
     (ap toldBy (tied-meets write-run-tie m) ∙ write-one)
@@ -206,11 +211,11 @@ module _ (r : Ran) (miscounted : r .done ≡ 1 → ⊥) where
       let a = ap (λ (t : Told). t .answer) (put-run-one selecting blank 7 .0) ∙ small.put-accepted in
       miscounted (ap (λ (x : Ran). x .done) e ∙ put-run-all selecting blank (7 ∷ []) a)
 
-  pub write-run-miscounted : Meets writeRunCall (fresh, oneWrite) r → ⊥
+  pub write-run-miscounted : Meets writeRunCall (first, oneWrite) r → ⊥
   write-run-miscounted m =
       let e = tied-meets write-run-tie m in
       let a = ap (λ (t : Told). t .answer) write-one ∙ small.write-accepted in
-      miscounted (ap (λ (x : Ran). x .done) e ∙ write-run-all fresh oneWrite a)
+      miscounted (ap (λ (x : Ran). x .done) e ∙ write-run-all first oneWrite a)
 
 pub fill-untouched : (t : Told) → Meets fillCall (started night, filled) (t, filled) → ⊥
 fill-untouched t m = differ 0 (λ (z : 100 ≡ 0). omega arith) (pair-is .1 (tied-meets fill-tie m) .1 ∙ small.night-fill)
@@ -239,9 +244,20 @@ finish-untouched m = blank-page outLen (omega arith) (small.finishes-is white m)
 pub feed-untouched : Feeds white (page outLen) → ⊥
 feed-untouched m = blank-page outLen (omega arith) (small.feeds-is white small.feed-white m)
 
+-- ---- a wrong number of bits: every state has one; any number is taken; "a fresh one-bit state" has two
+
+pub new-rough : Meets newCall 2 (told (fresh oneBit) done) → ⊥
+new-rough m = apart (λ (t : Told). bitsIn (t .state)) (λ (z : 1 ≡ 2). omega arith) (tied-meets new-tie m)
+
+pub new-taken : (d : Display) → Meets newCall 3 (told d done) → ⊥
+new-taken d m = apart (λ (t : Told). t .answer) (λ (z : 0 ≡ 17). omega arith) (tied-meets new-tie m)
+
+pub new-soft : Meets newCall 3 (told (fresh twoBits) glyphBits) → ⊥
+new-soft m = apart (λ (t : Told). bitsIn (t .state)) (λ (z : 2 ≡ 1). omega arith) (tied-meets new-tie m)
+
 -- ---- errors of toggle and start
 
-pub toggle-and-not : Meets toggleCall (fresh, 1) (andNot fresh 1) → ⊥
+pub toggle-and-not : Meets toggleCall (first, 1) (andNot first 1) → ⊥
 toggle-and-not m = apart (λ (t : Told). t .state .errors) (λ (z : 0 ≡ 1). omega arith) (tied-meets toggle-tie m)
 
 pub start-stopped : Meets startCall sizeless (stoppedStart sizeless) → ⊥
@@ -257,7 +273,7 @@ rule-is s a b out = refl
 
 -- the line with the white picture, with any tables of the right length
 abbrev Answers : Rule → List ℕ → Type 0
-Answers rule text = (t : List ℕ) → length t ≡ tablesLen → printedBy rule fresh t (line white) ≡ text
+Answers rule text = (t : List ℕ) → length t ≡ tablesLen 1 → printedBy rule first t (line white) ≡ text
 
 -- with a frame x and a text y that are not the promised ones
 breaks : (rule : Rule) {x y : List ℕ} → frameBy rule white ≡ x → (x ≡ 255 ∷ 255 ∷ 255 ∷ 255 ∷ [] → ⊥) → Answers rule y
@@ -333,8 +349,8 @@ module _ (last : ℕ → ℕ → ℕ → ℕ) where
   unfolding small.frameOpen
   same-frame = refl
 
-  same-text : (t : List ℕ) → length t ≡ tablesLen
-      → printedBy rule fresh t (line bright) ≡ printedBy rule fresh t (line dim)
+  same-text : (t : List ℕ) → length t ≡ tablesLen 1
+      → printedBy rule first t (line bright) ≡ printedBy rule first t (line dim)
   unfolding small.lineOpen
   same-text t long = rw (eq-eqb _ _ long)
 

@@ -16,6 +16,7 @@ use Rattle.words.specs.Check.{reservedBits, Plain, Accepted}
 use Rattle.words.specs.Order.{here}
 use Rattle.words.specs.Pictures.{pictureLen, pictureLenAt, pictureStart, picturesLen}
 use Rattle.frames.specs.Scene.{Scene}
+use Rattle.profiles.specs.Profile.{bitsOf}
 use Rattle.frames.specs.Pixel.{bankBytes, colourIndex, graphicsAt, pictureAt, ownAt, overAt}
 use Rattle.frames.specs.Band.{layerStep}
 use Rattle.frames.specs.Frame.{frameOf}
@@ -109,7 +110,8 @@ module _ (s : Scene) (n : ℕ) (ready : Ready s) (hn : n < 8) where
 
   -- ---- the other layers show what they showed
 
-  bankBytes-same : (kind m : ℕ) → bankBytes w′ (s .tables) m kind ≡ bankBytes w (s .tables) m kind
+  bankBytes-same : (kind m : ℕ) → bankBytes (bitsOf (s .profile)) w′ (s .tables) m kind
+      ≡ bankBytes (bitsOf (s .profile)) w (s .tables) m kind
   unfolding bankBytes
   bankBytes-same kind m = rw (withOff-word w (ready .long) n 3 (omega arith))
 

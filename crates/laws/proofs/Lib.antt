@@ -18,3 +18,4 @@ pub mod Document
 pub mod Refusals
 pub mod CheckRows
 pub mod Rows
+pub mod OneBit

@@ -16,6 +16,7 @@ use Rattle.words.specs.Fields.{layerOf}
 use Rattle.words.specs.Order.{here}
 use Rattle.words.specs.Pictures.{pictureLen, pictureLenAt, pictureStart}
 use Rattle.frames.specs.Scene.{Scene}
+use Rattle.profiles.specs.Profile.{bitsOf}
 use Rattle.frames.specs.Pixel.{bankBytes, colourIndex, graphicsAt, pictureAt, ownAt, alphaAt, covers, overAt}
 use Rattle.frames.specs.Band.{layerStep, depthStep, pixelAt}
 use Rattle.frames.proofs.PixelLaws.{covers-covered, over-inside}
@@ -113,9 +114,10 @@ module _ (s t : Scene) (d : ℕ) (other : OtherUnder s t d) where
   pictureStart-same m h = sum-cong m _ _ (λ k lt. pictureLen-same k (omega arith))
 
   bankBytes-same : (m kind : ℕ) → m < 8 → d ≤ layerOf (s .words) m .depth
-      → bankBytes (t .words) (t .tables) m kind ≡ bankBytes (s .words) (s .tables) m kind
+      → bankBytes (bitsOf (t .profile)) (t .words) (t .tables) m kind
+      ≡ bankBytes (bitsOf (s .profile)) (s .words) (s .tables) m kind
   unfolding bankBytes
-  bankBytes-same m kind h ge = rw (other .banks) (other .tables m kind h ge)
+  bankBytes-same m kind h ge = rw (other .profile, other .banks) (other .tables m kind h ge)
 
   -- a layer from d on in either scene is one in s
   from-s : (m : ℕ) → From (s .words) d m ⊎ From (t .words) d m → From (s .words) d m
@@ -150,6 +152,7 @@ module _ (s t : Scene) (d : ℕ) (other : OtherUnder s t d) where
         bankBytes-same m 1 hm (f .depth),
         bankBytes-same m 2 hm (f .depth),
         bankBytes-same m 3 hm (f .depth),
+        other .profile,
       )
       (pick-cong (layerOf (s .words) m .graphics) (λ g. refl)
       (λ g. other .pictures m (4 * (v * layerOf (s .words) m .width + u) + c) hm (f .depth)

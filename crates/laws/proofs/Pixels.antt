@@ -22,6 +22,7 @@ use Rattle.words.specs.Pictures.{pictureLen, pictureLenAt, pictureStart, pictur
 use Rattle.words.specs.Check.{Accepted}
 use Rattle.draw.specs.Drawing.{endedOf}
 use Rattle.frames.specs.Scene.{Scene}
+use Rattle.profiles.specs.Profile.{bitsOf}
 use Rattle.frames.specs.Pixel.{bankBytes, colourIndex, graphicsAt, pictureAt, ownAt, fadedOf, alphaAt, covers, overAt}
 use Rattle.frames.specs.Band.{pixelAt, bandByte, bandOf, missing, markAt}
 use Rattle.frames.specs.Frame.{frameLen, paintRefusal, refusalOf, fillByte, fillOf, frameOf}
@@ -139,7 +140,8 @@ module _ (s : Scene) (w′ : List ℕ) (alike : (n : ℕ) → Alike (layerOf w�
         pictures = r .pictures ∙ sym picturesLen-alike;
       }
 
-  bankBytes-alike : (tables : List ℕ) (kind n : ℕ) → bankBytes w′ tables n kind ≡ bankBytes (s .words) tables n kind
+  bankBytes-alike : (tables : List ℕ) (kind n : ℕ) → bankBytes (bitsOf (s .profile)) w′ tables n kind
+      ≡ bankBytes (bitsOf (s .profile)) (s .words) tables n kind
   unfolding bankBytes
   bankBytes-alike tables kind n = rw banks
 
@@ -153,7 +155,7 @@ module _ (s : Scene) (w′ : List ℕ) (alike : (n : ℕ) → Alike (layerOf w�
         bankBytes-alike (s .tables) 2 n,
         bankBytes-alike (s .tables) 3 n,
       )
-      (ap (λ (l : Layer). pick (l .graphics) (graphicsAt (s .words) (s .tables) n v u c)
+      (ap (λ (l : Layer). pick (l .graphics) (graphicsAt (bitsOf (s .profile)) (s .words) (s .tables) n v u c)
       (getD (s .pictures) (pictureStart (s .words) n + (4 * (v * l .width + u) + c)) 0)) (alike n))
 
   pub over-alike : (x y c n p : ℕ) → c < 4 → overAt (withWords s w′) y x c n p ≡ overAt s y x c n p
@@ -164,7 +166,7 @@ module _ (s : Scene) (w′ : List ℕ) (alike : (n : ℕ) → Alike (layerOf w�
   unfolding missing
   missing-alike n =
       rw (bankBytes-alike (s .tables) 0 n)
-      (ap (λ (l : Layer). both (l .graphics) (not (endedOf (bankBytes (s .words) (s .tables) n 0)))) (alike n))
+      (ap (λ (l : Layer). both (l .graphics) (not (endedOf (bankBytes (bitsOf (s .profile)) (s .words) (s .tables) n 0)))) (alike n))
 
   pub mark-alike : (n e : ℕ) → markAt (withWords s w′) n e ≡ markAt s n e
   unfolding markAt

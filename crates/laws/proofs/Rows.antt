@@ -12,6 +12,7 @@ use lib.ListN.{length, set}
 use lib.Bits.{bitOr}
 use Rattle.lists.specs.Choice.{pick, both, orElse, choose}
 use Rattle.lists.proofs.Choice.{split, same-or}
+use Rattle.profiles.specs.Profile.{profileOf, oneBit, bitsOf}
 use Rattle.words.specs.Fields.{updateOf, widthOf, heightOf}
 use Rattle.words.specs.Check.{checkOf, Accepted}
 use Rattle.words.specs.Pictures.{picturesLen}
@@ -24,21 +25,22 @@ use Rattle.frames.specs.Frame as painting
 use Rattle.display.specs.declared.Display.{Display}
 use Rattle.display.specs.declared.Told.{Told}
 use Rattle.display.specs.State.{withPending, withActive, withErrors, freshSelection, withPlace, told, stepped, writeOf}
-use Rattle.display.specs.State.{selectOf, toggleOf, startOf}
+use Rattle.display.specs.State.{bitsIn, fresh, newOf, selectOf, toggleOf, startOf}
 use Rattle.display.specs.Put.{putAnswer, putState, putOf, putTables}
 use Rattle.display.specs.Reached.{Sound}
 use Rattle.display.specs.Paint.{sceneWith, fillTold, fillBytes, paintTold, paintBytes, frameTold, frameBytes}
-use Rattle.host.specs.Host.{wordsOf, sceneIn, hostAnswer, hostOutput}
+use Rattle.host.specs.Host.{wordsOf, profileFor, sceneIn, hostAnswer, hostOutput}
+use Rattle.host.proofs.HostLaws.{host-tables}
 use Rattle.laws.proofs.Refusals.{Says, says-itself, eqb-says, ltb-says, leb-says, both-says, either-says, Tells}
 use Rattle.laws.proofs.Refusals.{refuses, refuses-but, tells-as, over-zero, Misses, other, misses-or, or-first}
 use Rattle.laws.proofs.Refusals.{or-later, given-when, passed-when, own, past}
 use Rattle.laws.specs.Rows.{Row, StartRow, PutRow, FillRow, PaintRow, FrameRow, HostRow, ReservedBit, Case8}
-use Rattle.laws.specs.Rows.{Case9, Case10, Case11, Updates, NoBand, NoSize, WrongOutput, WrongTables}
+use Rattle.laws.specs.Rows.{Case9, Case10, Case11, Updates, NoBand, NoSize, WrongOutput, WrongTables, WrongBoth}
 use Rattle.laws.specs.Rows.{WrongPictures, Case6, Case14, BuffersFit, NotSelected, BankActive, BankFull}
-use Rattle.laws.specs.Rows.{WrongImage}
+use Rattle.laws.specs.Rows.{OneOrTwo, WrongImage}
 use Rattle.laws.proofs.CheckRows.{check-7, check-8, check-9, check-10, check-11, check-0, check-misses}
 
--- ---- write, select and toggle
+-- ---- new, write, select and toggle
 
 -- what is not below a bound
 not-below : (n k : ℕ) → ¬ (n < k) → k ≤ n
@@ -47,6 +49,42 @@ not-below n k f = ⊎-elim (λ (h : n < k). absurd (f h)) (λ (h : k ≤ n). h) 
 -- the same case in other words
 row-as : {x k : ℕ} {P Q L : Type 0} → P ↔ Q → Row x k P L → Row x k Q L
 row-as f r = record { only = λ e. f .0 (r .only e); when = λ q. r .when (f .1 q); leaves = r .leaves }
+
+-- 02 K2: "The number of bits is chosen when a state is made"
+pub new-0 : (bits : ℕ) → Row (newOf bits .answer) 0 (OneOrTwo bits) (newOf bits .state ≡ fresh (profileOf (eqb bits 2)))
+new-0 bits = ⊎-elim
+    (λ (e : bits ≡ 1). rw (e) (record { only = λ q. inl refl; when = λ p. refl; leaves = λ q. refl }))
+    (λ (n : bits ≡ 1 → ⊥). ⊎-elim
+    (λ (e : bits ≡ 2). rw (e) (record { only = λ q. inr refl; when = λ p. refl; leaves = λ q. refl }))
+    (λ (m : bits ≡ 2 → ⊥). record {
+      only = λ q. absurd (let z : 17 ≡ 0 = rw (ne-eqb bits 1 n, ne-eqb bits 2 m) at q in omega arith);
+      when = λ p. absurd (⊎-elim n m p);
+      leaves = λ q. absurd (let z : 17 ≡ 0 = rw (ne-eqb bits 1 n, ne-eqb bits 2 m) at q in omega arith);
+    })
+    (same-or bits 2))
+    (same-or bits 1)
+
+-- "handing back a fresh one-bit state"
+pub new-17 : (bits : ℕ) → Row (newOf bits .answer) 17 (¬ OneOrTwo bits) (newOf bits .state ≡ fresh oneBit)
+new-17 bits = ⊎-elim
+    (λ (e : bits ≡ 1). rw (e) (record {
+      only = λ q. absurd (let z : 0 ≡ 17 = q in omega arith);
+      when = λ p. absurd (p (inl refl));
+      leaves = λ q. refl;
+    }))
+    (λ (n : bits ≡ 1 → ⊥). ⊎-elim
+    (λ (e : bits ≡ 2). rw (e) (record {
+      only = λ q. absurd (let z : 0 ≡ 17 = q in omega arith);
+      when = λ p. absurd (p (inr refl));
+      leaves = λ q. absurd (let z : 0 ≡ 17 = q in omega arith);
+    }))
+    (λ (m : bits ≡ 2 → ⊥). record {
+      only = λ q p. ⊎-elim n m p;
+      when = λ p. rw (ne-eqb bits 1 n, ne-eqb bits 2 m);
+      leaves = λ q. rw (ne-eqb bits 1 n, ne-eqb bits 2 m);
+    })
+    (same-or bits 2))
+    (same-or bits 1)
 
 -- done with the state a, or refused with k and the state b
 module _ (k : ℕ) (nz : eqb k 0 ≡ false) (a b : Display) where
@@ -192,8 +230,8 @@ module _ (w : List ℕ) where
   tells-14 : (pictures : List ℕ) → Tells (picturesRefusal w (length pictures)) 14 (WrongPictures w pictures)
   tells-14 pictures = refuses-but _ 14 (eqb-says (length pictures) (picturesLen w))
 
-tells-6 : (tables : List ℕ) → Tells (tablesRefusal (length tables)) 6 (WrongTables tables)
-tells-6 tables = refuses-but _ 6 (eqb-says (length tables) tablesLen)
+tells-6 : (bits : ℕ) (tables : List ℕ) → Tells (tablesRefusal bits (length tables)) 6 (WrongTables bits tables)
+tells-6 bits tables = refuses-but _ 6 (eqb-says (length tables) (tablesLen bits))
 
 module _ (d : Display) (out : List ℕ) where
   fill-row : (r : ℕ) {C : Type 0} → eqb r 0 ≡ false → (fillRefusal (d .active) (length out) ≡ r) ↔ C → FillRow d out r C
@@ -215,45 +253,48 @@ module _ (d : Display) (out : List ℕ) where
       let f = past refl _ 0 refl (tells-12 (d .active)) (passed-when refl (tells-13 (d .active) out)) in
       record { only = f .0; when = f .1; leaves = λ q. (refl, rw (eq-eqb _ 0 q)) }
 
--- 12, 13, 6, 14, of the words and what is lent
-module _ (w out tables pictures : List ℕ) where
-  abbrev lent : ℕ
-  lent =
-      orElse (sizeRefusal w) (orElse (outputRefusal w (length out))
-      (orElse (tablesRefusal (length tables)) (picturesRefusal w (length pictures))))
+-- 12, 13, 6, 14, of the bits a glyph pixel has, the words and what is lent
+abbrev lent : ℕ → List ℕ → List ℕ → List ℕ → List ℕ → ℕ
+lent bits w out tables pictures =
+    orElse (sizeRefusal w) (orElse (outputRefusal w (length out))
+    (orElse (tablesRefusal bits (length tables)) (picturesRefusal w (length pictures))))
 
+-- where the tables are wrong in the case `Wrong`
+module _ (bits : ℕ) (w out tables pictures : List ℕ) (Wrong : Type 0)
+    (wrong : Tells (tablesRefusal bits (length tables)) 6 Wrong) where
   last-misses : (r : ℕ) → eqb 6 r ≡ false → eqb 14 r ≡ false
-      → Misses (orElse (tablesRefusal (length tables)) (picturesRefusal w (length pictures))) r
+      → Misses (orElse (tablesRefusal bits (length tables)) (picturesRefusal w (length pictures))) r
   last-misses r c e =
-      misses-or (tablesRefusal (length tables)) _ r (other r c (tells-6 tables)) (other r e (tells-14 w pictures))
+      misses-or (tablesRefusal bits (length tables)) _ r (other r c wrong) (other r e (tells-14 w pictures))
 
-  lent-misses : (r : ℕ) → eqb 12 r ≡ false → eqb 13 r ≡ false → eqb 6 r ≡ false → eqb 14 r ≡ false → Misses lent r
+  lent-misses : (r : ℕ) → eqb 12 r ≡ false → eqb 13 r ≡ false → eqb 6 r ≡ false → eqb 14 r ≡ false
+      → Misses (lent bits w out tables pictures) r
   lent-misses r a b c e =
       misses-or (sizeRefusal w) _ r (other r a (tells-12 w))
       (misses-or (outputRefusal w (length out)) _ r (other r b (tells-13 w out)) (last-misses r c e))
 
-  lent-12 : (lent ≡ 12) ↔ NoSize w
+  lent-12 : (lent bits w out tables pictures ≡ 12) ↔ NoSize w
   lent-12 = own refl _ (tells-12 w) (misses-or (outputRefusal w (length out)) _ 12 (other 12 refl (tells-13 w out))
       (last-misses 12 refl refl))
 
-  lent-13 : (lent ≡ 13) ↔ ((¬ NoSize w) × WrongOutput w out)
+  lent-13 : (lent bits w out tables pictures ≡ 13) ↔ ((¬ NoSize w) × WrongOutput w out)
   lent-13 = past refl _ 13 refl (tells-12 w) (own refl _ (tells-13 w out)
       (last-misses 13 refl refl))
 
-  lent-6 : (lent ≡ 6) ↔ ((¬ NoSize w) × Case6 w out tables)
+  lent-6 : (lent bits w out tables pictures ≡ 6) ↔ ((¬ NoSize w) × Case6 w out Wrong)
   lent-6 = past refl _ 6 refl (tells-12 w)
-      (past refl _ 6 refl (tells-13 w out) (own refl _ (tells-6 tables) (other 6 refl (tells-14 w pictures))))
+      (past refl _ 6 refl (tells-13 w out) (own refl _ wrong (other 6 refl (tells-14 w pictures))))
 
-  lent-14 : (lent ≡ 14) ↔ ((¬ NoSize w) × Case14 w out tables pictures)
+  lent-14 : (lent bits w out tables pictures ≡ 14) ↔ ((¬ NoSize w) × Case14 w out Wrong pictures)
   lent-14 = past refl _ 14 refl (tells-12 w)
       (past refl _ 14 refl (tells-13 w out)
-      (past refl _ 14 refl (tells-6 tables) (given-when refl (tells-14 w pictures))))
+      (past refl _ 14 refl wrong (given-when refl (tells-14 w pictures))))
 
-  lent-0 : (lent ≡ 0)
-      ↔ ((¬ NoSize w) × BuffersFit w out tables pictures)
+  lent-0 : (lent bits w out tables pictures ≡ 0)
+      ↔ ((¬ NoSize w) × BuffersFit w out Wrong pictures)
   lent-0 = past refl _ 0 refl (tells-12 w)
       (past refl _ 0 refl (tells-13 w out)
-      (past refl _ 0 refl (tells-6 tables) (passed-when refl (tells-14 w pictures))))
+      (past refl _ 0 refl wrong (passed-when refl (tells-14 w pictures))))
 
 -- "Paint 15, 12, 13, 6, 14."
 module _ (d : Display) (a b : ℕ) (tables pictures out : List ℕ) where
@@ -270,35 +311,35 @@ module _ (d : Display) (a b : ℕ) (tables pictures out : List ℕ) where
   pub paint-15 : PaintRow d a b tables pictures out 15 (NoBand a b)
   unfolding paintRefusal
   paint-15 =
-      paint-row 15 refl (own refl _ (tells-15 a b) (lent-misses (d .active) out tables pictures 15 refl refl refl refl))
+      paint-row 15 refl (own refl _ (tells-15 a b) (lent-misses (bitsIn d) (d .active) out tables pictures _ (tells-6 (bitsIn d) tables) 15 refl refl refl refl))
 
   pub paint-12 : PaintRow d a b tables pictures out 12 ((¬ NoBand a b) × NoSize (d .active))
   unfolding paintRefusal
-  paint-12 = paint-row 12 refl (past refl _ 12 refl (tells-15 a b) (lent-12 (d .active) out tables pictures))
+  paint-12 = paint-row 12 refl (past refl _ 12 refl (tells-15 a b) (lent-12 (bitsIn d) (d .active) out tables pictures _ (tells-6 (bitsIn d) tables)))
 
   pub paint-13 : PaintRow d a b tables pictures out 13
       ((¬ NoBand a b) × ((¬ NoSize (d .active)) × WrongOutput (d .active) out))
   unfolding paintRefusal
-  paint-13 = paint-row 13 refl (past refl _ 13 refl (tells-15 a b) (lent-13 (d .active) out tables pictures))
+  paint-13 = paint-row 13 refl (past refl _ 13 refl (tells-15 a b) (lent-13 (bitsIn d) (d .active) out tables pictures _ (tells-6 (bitsIn d) tables)))
 
   pub paint-6 : PaintRow d a b tables pictures out 6
-      ((¬ NoBand a b) × ((¬ NoSize (d .active)) × Case6 (d .active) out tables))
+      ((¬ NoBand a b) × ((¬ NoSize (d .active)) × Case6 (d .active) out (WrongTables (bitsIn d) tables)))
   unfolding paintRefusal
-  paint-6 = paint-row 6 refl (past refl _ 6 refl (tells-15 a b) (lent-6 (d .active) out tables pictures))
+  paint-6 = paint-row 6 refl (past refl _ 6 refl (tells-15 a b) (lent-6 (bitsIn d) (d .active) out tables pictures _ (tells-6 (bitsIn d) tables)))
 
   pub paint-14 : PaintRow d a b tables pictures out 14
-      ((¬ NoBand a b) × ((¬ NoSize (d .active)) × Case14 (d .active) out tables pictures))
+      ((¬ NoBand a b) × ((¬ NoSize (d .active)) × Case14 (d .active) out (WrongTables (bitsIn d) tables) pictures))
   unfolding paintRefusal
-  paint-14 = paint-row 14 refl (past refl _ 14 refl (tells-15 a b) (lent-14 (d .active) out tables pictures))
+  paint-14 = paint-row 14 refl (past refl _ 14 refl (tells-15 a b) (lent-14 (bitsIn d) (d .active) out tables pictures _ (tells-6 (bitsIn d) tables)))
 
   pub paint-0 : Row (paintTold d a b tables pictures out .answer) 0
-      ((¬ NoBand a b) × ((¬ NoSize (d .active)) × BuffersFit (d .active) out tables pictures))
+      ((¬ NoBand a b) × ((¬ NoSize (d .active)) × BuffersFit (d .active) out (WrongTables (bitsIn d) tables) pictures))
       ((paintTold d a b tables pictures out .state
       ≡ withErrors d (errorsOf (sceneWith d tables pictures) a b (d .errors)))
       × (paintBytes d a b tables pictures out ≡ bandOf (sceneWith d tables pictures) a b out))
   unfolding paintRefusal paintTold paintBytes painting.errorsAfter painting.paintAfter
   paint-0 =
-      let f = past refl _ 0 refl (tells-15 a b) (lent-0 (d .active) out tables pictures) in
+      let f = past refl _ 0 refl (tells-15 a b) (lent-0 (bitsIn d) (d .active) out tables pictures _ (tells-6 (bitsIn d) tables)) in
       record { only = f .0; when = f .1; leaves = λ q. (rw (eq-eqb _ 0 q), rw (eq-eqb _ 0 q)) }
 
 -- "A whole frame is a fill and band 0..8, refused as paint."
@@ -315,28 +356,28 @@ module _ (d : Display) (tables pictures out : List ℕ) where
 
   pub frame-12 : FrameRow d tables pictures out 12 (NoSize (d .active))
   unfolding paintRefusal
-  frame-12 = frame-row 12 refl (lent-12 (d .active) out tables pictures)
+  frame-12 = frame-row 12 refl (lent-12 (bitsIn d) (d .active) out tables pictures _ (tells-6 (bitsIn d) tables))
 
   pub frame-13 : FrameRow d tables pictures out 13 ((¬ NoSize (d .active)) × WrongOutput (d .active) out)
   unfolding paintRefusal
-  frame-13 = frame-row 13 refl (lent-13 (d .active) out tables pictures)
+  frame-13 = frame-row 13 refl (lent-13 (bitsIn d) (d .active) out tables pictures _ (tells-6 (bitsIn d) tables))
 
-  pub frame-6 : FrameRow d tables pictures out 6 ((¬ NoSize (d .active)) × Case6 (d .active) out tables)
+  pub frame-6 : FrameRow d tables pictures out 6 ((¬ NoSize (d .active)) × Case6 (d .active) out (WrongTables (bitsIn d) tables))
   unfolding paintRefusal
-  frame-6 = frame-row 6 refl (lent-6 (d .active) out tables pictures)
+  frame-6 = frame-row 6 refl (lent-6 (bitsIn d) (d .active) out tables pictures _ (tells-6 (bitsIn d) tables))
 
   pub frame-14 : FrameRow d tables pictures out 14
-      ((¬ NoSize (d .active)) × Case14 (d .active) out tables pictures)
+      ((¬ NoSize (d .active)) × Case14 (d .active) out (WrongTables (bitsIn d) tables) pictures)
   unfolding paintRefusal
-  frame-14 = frame-row 14 refl (lent-14 (d .active) out tables pictures)
+  frame-14 = frame-row 14 refl (lent-14 (bitsIn d) (d .active) out tables pictures _ (tells-6 (bitsIn d) tables))
 
   pub frame-0 : Row (frameTold d tables pictures out .answer) 0
-      ((¬ NoSize (d .active)) × BuffersFit (d .active) out tables pictures)
+      ((¬ NoSize (d .active)) × BuffersFit (d .active) out (WrongTables (bitsIn d) tables) pictures)
       ((frameTold d tables pictures out .state ≡ withErrors d (errorsOf (sceneWith d tables pictures) 0 8 (d .errors)))
       × (frameBytes d tables pictures out ≡ frameOf (sceneWith d tables pictures)))
   unfolding paintRefusal frameTold frameBytes paintTold painting.errorsAfter painting.frameAfter
   frame-0 =
-      let f = lent-0 (d .active) out tables pictures in
+      let f = lent-0 (bitsIn d) (d .active) out tables pictures _ (tells-6 (bitsIn d) tables) in
       record { only = f .0; when = f .1; leaves = λ q. (rw (eq-eqb _ 0 q), rw (eq-eqb _ 0 q)) }
 
 -- ---- put: "Order: put 6, 3, 4, 5."
@@ -354,21 +395,21 @@ module _ (d : Display) (tables : List ℕ) (byte : ℕ) where
   tells-4 : Tells (pick (namedBy (d .active) (d .selection .number)) 4 0) 4 (BankActive d)
   tells-4 = refuses _ 4 (says-itself _)
 
-  tells-5 : Tells (pick (ltb (d .selection .place) (endOf (d .selection .number))) 0 5) 5
-      (¬ (d .selection .place < endOf (d .selection .number)))
+  tells-5 : Tells (pick (ltb (d .selection .place) (endOf (bitsIn d) (d .selection .number))) 0 5) 5
+      (¬ (d .selection .place < endOf (bitsIn d) (d .selection .number)))
   tells-5 = refuses-but _ 5 (ltb-says _ _)
 
   -- the place of a state that came to be is at most at the end
-  tells-full : Sound d → Tells (pick (ltb (d .selection .place) (endOf (d .selection .number))) 0 5) 5 (BankFull d)
+  tells-full : Sound d → Tells (pick (ltb (d .selection .place) (endOf (bitsIn d) (d .selection .number))) 0 5) 5 (BankFull d)
   tells-full s = tells-as (
-    λ n. let h = not-below (d .selection .place) (endOf (d .selection .number)) n in let k = s .place in omega arith,
+    λ n. let h = not-below (d .selection .place) (endOf (bitsIn d) (d .selection .number)) n in let k = s .place in omega arith,
     λ e h. omega arith,
   ) tells-5
 
   -- 4 and then 5 give no other number
   bank-misses : (r : ℕ) → eqb 4 r ≡ false → eqb 5 r ≡ false
       → Misses (orElse (pick (namedBy (d .active) (d .selection .number)) 4 0)
-      (pick (ltb (d .selection .place) (endOf (d .selection .number))) 0 5)) r
+      (pick (ltb (d .selection .place) (endOf (bitsIn d) (d .selection .number))) 0 5)) r
   bank-misses r a b =
       misses-or (pick (namedBy (d .active) (d .selection .number)) 4 0) _ r (other r a tells-4) (other r b tells-5)
 
@@ -377,40 +418,40 @@ module _ (d : Display) (tables : List ℕ) (byte : ℕ) where
   unfolding putOf putState putTables
   put-row r nz n5 f = record { only = f .0; when = f .1; leaves = λ q. (rw (q, nz, n5), rw (q, nz)) }
 
-  pub put-6 : PutRow d tables byte 6 (WrongTables tables)
+  pub put-6 : PutRow d tables byte 6 (WrongTables (bitsIn d) tables)
   unfolding putAnswer
-  put-6 = put-row 6 refl refl (own refl _ (tells-6 tables)
+  put-6 = put-row 6 refl refl (own refl _ (tells-6 (bitsIn d) tables)
       (misses-or (pick (d .selection .made) 0 3) _ 6 (other 6 refl tells-3) (bank-misses 6 refl refl)))
 
-  pub put-3 : PutRow d tables byte 3 ((¬ WrongTables tables) × NotSelected d)
+  pub put-3 : PutRow d tables byte 3 ((¬ WrongTables (bitsIn d) tables) × NotSelected d)
   unfolding putAnswer
-  put-3 = put-row 3 refl refl (past refl _ 3 refl (tells-6 tables) (own refl _ tells-3
+  put-3 = put-row 3 refl refl (past refl _ 3 refl (tells-6 (bitsIn d) tables) (own refl _ tells-3
       (bank-misses 3 refl refl)))
 
-  pub put-4 : PutRow d tables byte 4 ((¬ WrongTables tables) × ((¬ NotSelected d) × BankActive d))
+  pub put-4 : PutRow d tables byte 4 ((¬ WrongTables (bitsIn d) tables) × ((¬ NotSelected d) × BankActive d))
   unfolding putAnswer
-  put-4 = put-row 4 refl refl (past refl _ 4 refl (tells-6 tables)
+  put-4 = put-row 4 refl refl (past refl _ 4 refl (tells-6 (bitsIn d) tables)
       (past refl _ 4 refl tells-3 (own refl _ tells-4 (other 4 refl tells-5))))
 
   -- "error bit 4g+1 set, else unchanged"
   pub put-5 : Sound d
-      → Row (putOf d tables .answer) 5 ((¬ WrongTables tables) × ((¬ NotSelected d) × ((¬ BankActive d) × BankFull d)))
+      → Row (putOf d tables .answer) 5 ((¬ WrongTables (bitsIn d) tables) × ((¬ NotSelected d) × ((¬ BankActive d) × BankFull d)))
       ((putOf d tables .state ≡ withErrors d (bitOr (d .errors) (2 ^ (4 * controllerOf (d .selection .number) + 1))))
       × (putTables d tables byte ≡ tables))
   unfolding putAnswer putOf putState putTables
   put-5 s =
-      let f = past refl _ 5 refl (tells-6 tables)
+      let f = past refl _ 5 refl (tells-6 (bitsIn d) tables)
       (past refl _ 5 refl tells-3 (past refl _ 5 refl tells-4 (given-when refl (tells-full s)))) in
       record { only = f .0; when = f .1; leaves = λ q. (rw q, rw q) }
 
   -- "Each put stores one byte and moves the place by one."
   pub put-0 : Sound d → Row (putOf d tables .answer) 0
-      ((¬ WrongTables tables) × ((¬ NotSelected d) × ((¬ BankActive d) × (¬ BankFull d))))
+      ((¬ WrongTables (bitsIn d) tables) × ((¬ NotSelected d) × ((¬ BankActive d) × (¬ BankFull d))))
       ((putOf d tables .state ≡ withPlace d (d .selection .place + 1))
-      × (putTables d tables byte ≡ set tables (firstByteOf (d .selection .number) + d .selection .place) byte))
+      × (putTables d tables byte ≡ set tables (firstByteOf (bitsIn d) (d .selection .number) + d .selection .place) byte))
   unfolding putAnswer putOf putState putTables
   put-0 s =
-      let f = past refl _ 0 refl (tells-6 tables)
+      let f = past refl _ 0 refl (tells-6 (bitsIn d) tables)
       (past refl _ 0 refl tells-3 (past refl _ 0 refl tells-4 (passed-when refl (tells-full s)))) in
       record { only = f .0; when = f .1; leaves = λ q. (rw q, rw q) }
 
@@ -420,6 +461,16 @@ module _ (image : List ℕ) (frame : ℕ) (tables pictures out : List ℕ) where
   tells-16 : Tells (pick (eqb (length image) 208) 0 16) 16 (WrongImage image)
   tells-16 = refuses-but _ 16 (eqb-says (length image) 208)
 
+  -- the bits that the tables' length stands for
+  abbrev bits : ℕ
+  bits = bitsOf (profileFor (length tables))
+
+  tells-both : Tells (tablesRefusal bits (length tables)) 6 (WrongBoth tables)
+  tells-both =
+      rw (host-tables (length tables))
+      (refuses-but _ 6
+      (either-says _ _ (eqb-says (length tables) (tablesLen 1)) (eqb-says (length tables) (tablesLen 2))))
+
   host-row : (r : ℕ) {C : Type 0} → eqb r 0 ≡ false → (hostAnswer image frame tables pictures out ≡ r) ↔ C
       → HostRow image frame tables pictures out r C
   unfolding hostOutput
@@ -427,7 +478,7 @@ module _ (image : List ℕ) (frame : ℕ) (tables pictures out : List ℕ) where
 
   -- 7 to 11
   host-checked : (r : ℕ) {C : Type 0} → eqb r 0 ≡ false → eqb 16 r ≡ false
-      → Misses (lent (wordsOf image) out tables pictures) r
+      → Misses (lent bits (wordsOf image) out tables pictures) r
       → (checkOf (wordsOf image) ≡ r) ↔ C → HostRow image frame tables pictures out r ((¬ WrongImage image) × C)
   unfolding hostAnswer paintRefusal
   host-checked r nz n m f = host-row r nz (past refl _ r n tells-16 (or-first (checkOf (wordsOf image)) _ r nz m f))
@@ -439,7 +490,7 @@ module _ (image : List ℕ) (frame : ℕ) (tables pictures out : List ℕ) where
       (λ (e : heightOf w ≡ 0). let h = a .tall in omega arith)
 
   host-lent : (r : ℕ) {Q : Type 0} → eqb 16 r ≡ false → Misses (checkOf (wordsOf image)) r
-      → (lent (wordsOf image) out tables pictures ≡ r) ↔ ((¬ NoSize (wordsOf image)) × Q)
+      → (lent bits (wordsOf image) out tables pictures ≡ r) ↔ ((¬ NoSize (wordsOf image)) × Q)
       → (hostAnswer image frame tables pictures out ≡ r) ↔ ((¬ WrongImage image) × (Accepted (wordsOf image) × Q))
   unfolding hostAnswer paintRefusal
   host-lent r n m f = past refl _ r n tells-16 (
@@ -452,57 +503,57 @@ module _ (image : List ℕ) (frame : ℕ) (tables pictures out : List ℕ) where
   unfolding hostAnswer paintRefusal
   host-16 = host-row 16 refl (own refl _ tells-16 (misses-or (checkOf (wordsOf image)) _ 16
       (check-misses (wordsOf image) 16 refl refl refl refl refl)
-      (lent-misses (wordsOf image) out tables pictures 16 refl refl refl refl)))
+      (lent-misses bits (wordsOf image) out tables pictures _ tells-both 16 refl refl refl refl)))
 
   pub host-7 : HostRow image frame tables pictures out 7 ((¬ WrongImage image) × ReservedBit (wordsOf image))
   host-7 =
-      host-checked 7 refl refl (lent-misses (wordsOf image) out tables pictures 7 refl refl refl refl)
+      host-checked 7 refl refl (lent-misses bits (wordsOf image) out tables pictures _ tells-both 7 refl refl refl refl)
       (check-7 (wordsOf image))
 
   pub host-8 : HostRow image frame tables pictures out 8 ((¬ WrongImage image) × Case8 (wordsOf image))
   host-8 =
-      host-checked 8 refl refl (lent-misses (wordsOf image) out tables pictures 8 refl refl refl refl)
+      host-checked 8 refl refl (lent-misses bits (wordsOf image) out tables pictures _ tells-both 8 refl refl refl refl)
       (check-8 (wordsOf image))
 
   pub host-9 : HostRow image frame tables pictures out 9 ((¬ WrongImage image) × Case9 (wordsOf image))
   host-9 =
-      host-checked 9 refl refl (lent-misses (wordsOf image) out tables pictures 9 refl refl refl refl)
+      host-checked 9 refl refl (lent-misses bits (wordsOf image) out tables pictures _ tells-both 9 refl refl refl refl)
       (check-9 (wordsOf image))
 
   pub host-10 : HostRow image frame tables pictures out 10 ((¬ WrongImage image) × Case10 (wordsOf image))
   host-10 =
-      host-checked 10 refl refl (lent-misses (wordsOf image) out tables pictures 10 refl refl refl refl)
+      host-checked 10 refl refl (lent-misses bits (wordsOf image) out tables pictures _ tells-both 10 refl refl refl refl)
       (check-10 (wordsOf image))
 
   pub host-11 : HostRow image frame tables pictures out 11 ((¬ WrongImage image) × Case11 (wordsOf image))
   host-11 =
-      host-checked 11 refl refl (lent-misses (wordsOf image) out tables pictures 11 refl refl refl refl)
+      host-checked 11 refl refl (lent-misses bits (wordsOf image) out tables pictures _ tells-both 11 refl refl refl refl)
       (check-11 (wordsOf image))
 
   pub host-13 : HostRow image frame tables pictures out 13
       ((¬ WrongImage image) × (Accepted (wordsOf image) × WrongOutput (wordsOf image) out))
   host-13 = host-row 13 refl
       (host-lent 13 refl (check-misses (wordsOf image) 13 refl refl refl refl refl)
-      (lent-13 (wordsOf image) out tables pictures))
+      (lent-13 bits (wordsOf image) out tables pictures _ tells-both))
 
   pub host-6 : HostRow image frame tables pictures out 6
-      ((¬ WrongImage image) × (Accepted (wordsOf image) × Case6 (wordsOf image) out tables))
+      ((¬ WrongImage image) × (Accepted (wordsOf image) × Case6 (wordsOf image) out (WrongBoth tables)))
   host-6 = host-row 6 refl
       (host-lent 6 refl (check-misses (wordsOf image) 6 refl refl refl refl refl)
-      (lent-6 (wordsOf image) out tables pictures))
+      (lent-6 bits (wordsOf image) out tables pictures _ tells-both))
 
   pub host-14 : HostRow image frame tables pictures out 14
       ((¬ WrongImage image) × (Accepted (wordsOf image)
-      × Case14 (wordsOf image) out tables pictures))
+      × Case14 (wordsOf image) out (WrongBoth tables) pictures))
   host-14 = host-row 14 refl
       (host-lent 14 refl (check-misses (wordsOf image) 14 refl refl refl refl refl)
-      (lent-14 (wordsOf image) out tables pictures))
+      (lent-14 bits (wordsOf image) out tables pictures _ tells-both))
 
   pub host-0 : Row (hostAnswer image frame tables pictures out) 0
       ((¬ WrongImage image) × (Accepted (wordsOf image)
-      × BuffersFit (wordsOf image) out tables pictures))
+      × BuffersFit (wordsOf image) out (WrongBoth tables) pictures))
       (hostOutput image frame tables pictures out ≡ frameOf (sceneIn image frame tables pictures))
   unfolding hostOutput
   host-0 =
-      let f = host-lent 0 refl (λ z. z) (lent-0 (wordsOf image) out tables pictures) in
+      let f = host-lent 0 refl (λ z. z) (lent-0 bits (wordsOf image) out tables pictures _ tells-both) in
       record { only = f .0; when = f .1; leaves = λ q. rw (eq-eqb _ 0 q) }

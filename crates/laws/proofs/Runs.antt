@@ -15,7 +15,7 @@ use Rattle.runs.proofs.WriteLaws.{length-writes, writes-short, writes-one, writ
 use Rattle.display.specs.declared.Display.{Display}
 use Rattle.display.specs.declared.Told.{Told}
 use Rattle.display.specs.declared.Ran.{Ran}
-use Rattle.display.specs.State.{told, writeOf}
+use Rattle.display.specs.State.{bitsIn, told, writeOf}
 use Rattle.display.specs.Put.{putOf, putTables}
 use Rattle.display.specs.Runs.{ran, toldBy, Lent, lent, putOne, puts, putRunOf, putRunTables, writeOne, writes}
 use Rattle.display.specs.Runs.{writeRunOf}
@@ -43,7 +43,7 @@ module _ (d : Display) (tables : List ℕ) where
   put-run-one byte = put-is-run d tables _ byte _ refl refl
 
   -- any other with wrong tables is refused with 6 at once
-  pub put-run-length : (byte : ℕ) (run : List ℕ) → (length tables ≡ tablesLen → ⊥)
+  pub put-run-length : (byte : ℕ) (run : List ℕ) → (length tables ≡ tablesLen (bitsIn d) → ⊥)
       → (putRunOf d tables (byte ∷ run) ≡ ran d tablesLength 0) × (putRunTables d tables (byte ∷ run) ≡ tables)
   unfolding putRunOf putRunTables puts
   put-run-length byte run ne =

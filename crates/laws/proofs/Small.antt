@@ -1,7 +1,7 @@
 -- The small inputs: their states come to be, each is accepted, and what is promised of them, by
 -- computing. Assumes nothing.
 use Prim.Native.Nat.{ℕ, _<_}
-use mathlib.Core.Path.{_≡_, refl, ap, _∙_}
+use mathlib.Core.Path.{_≡_, refl, sym, ap, _∙_}
 use mathlib.Core.List.{List, [], _∷_, _++_}
 use native.Mathlib.Omega.{arith}
 use borrow.Author.Tests.{eq-eqb, ne-eqb}
@@ -17,13 +17,13 @@ use Rattle.answers.specs.Answers.{done, emptyScreen}
 use Rattle.words.specs.Fields.{layerOf}
 use Rattle.words.specs.Check.{reservedAt, screenOf, placeOf, placeAt, clashOf, clashAt, clashBelow, checkOf}
 use Rattle.words.specs.Pictures.{pictureLen, pictureLenAt, pictureStart, picturesLen}
-use Rattle.tables.specs.Geometry.{tablesLen, kindLen}
+use Rattle.tables.specs.Geometry.{tablesLen, bankLen, kindLen}
 use Rattle.mix.specs.Blend.{blendOf}
 use Rattle.frames.specs.Pixel.{overAt, covers, alphaAt, ownAt, pictureAt}
 use Rattle.frames.specs.Band.{layerStep, depthStep, bandBy, bandByte, bandOf, markAt, missing, errorsOf}
 use Rattle.frames.specs.Frame as painting
 use Rattle.display.specs.declared.Display.{Display}
-use Rattle.display.specs.State.{fresh, writeOf, selectOf, toggleOf, startOf}
+use Rattle.display.specs.State.{writeOf, selectOf, toggleOf, startOf}
 use Rattle.display.specs.Put.{putAnswer, putOf}
 use Rattle.display.specs.Paint.{fillTold, fillBytes, paintTold, paintBytes, frameTold, frameBytes}
 use Rattle.display.specs.Reached.{Reached, by-new, by-write, by-select, by-start}
@@ -42,7 +42,7 @@ use Rattle.lines.specs.Blocks.{endsIn, lineIn, fedRun, lastRun, begun, nextRun,
 use Rattle.lines.specs.Blocks.{finishOf}
 use Rattle.lines.proofs.Unique.{run-line-tie, finish-tie, feed-tie}
 use Rattle.laws.specs.Small.{Write, writtenTo, onePixel, grey, night, written, started, sizeless, selecting}
-use Rattle.laws.specs.Small.{blank, filled, white, clear, dim, bright, image, line, page, block, slate, gathered}
+use Rattle.laws.specs.Small.{first, blank, filled, white, clear, dim, bright, image, line, page, block, slate, gathered}
 use Rattle.laws.specs.Small.{scene, painted, framed, hostScene, hosted, printed, Promised, replyWith, Paints}
 use Rattle.laws.specs.Small.{Frames, Hosts, Prints, Finishes, Feeds}
 
@@ -72,34 +72,39 @@ writtenTo-reached r [] = r
 writtenTo-reached r (w ∷ rest) = writtenTo-reached (by-write (w .register) (w .value) r) rest
 
 pub written-reached : (ground : ℕ) → Reached (written ground)
-written-reached ground = writtenTo-reached by-new (onePixel ground)
+written-reached ground = writtenTo-reached (by-new 1) (onePixel ground)
 
 pub started-reached : (ground : ℕ) → Reached (started ground)
 started-reached ground = by-start (written-reached ground)
 
 pub sizeless-reached : Reached sizeless
-sizeless-reached = by-write 0 4 by-new
+sizeless-reached = by-write 0 4 (by-new 1)
 
 pub selecting-reached : Reached selecting
-selecting-reached = by-select 1 by-new
+selecting-reached = by-select 1 (by-new 1)
 
 -- ---- each call is accepted
 
-pub blank-long : length blank ≡ tablesLen
+pub blank-long : length blank ≡ tablesLen 1
 unfolding zeros
-blank-long = length-replicate {A = ℕ} tablesLen 0
+blank-long = length-replicate {A = ℕ} (tablesLen 1) 0
 
-pub blank-byte : (i : ℕ) → i < tablesLen → getD blank i 0 ≡ 0
+-- tables of that length have one bit a glyph pixel
+pub blank-rough : length blank ≡ tablesLen 2 → ⊥
+unfolding tablesLen bankLen
+blank-rough e = let z : tablesLen 1 ≡ tablesLen 2 = sym blank-long ∙ e in omega arith
+
+pub blank-byte : (i : ℕ) → i < tablesLen 1 → getD blank i 0 ≡ 0
 unfolding zeros
-blank-byte i h = getD-replicate {A = ℕ} tablesLen i 0 0 h
+blank-byte i h = getD-replicate {A = ℕ} (tablesLen 1) i 0 0 h
 
-pub write-accepted : writeOf fresh 0 1 .answer ≡ done
+pub write-accepted : writeOf first 0 1 .answer ≡ done
 write-accepted = refl
 
-pub select-accepted : selectOf fresh 1 .answer ≡ done
+pub select-accepted : selectOf first 1 .answer ≡ done
 select-accepted = refl
 
-pub toggle-accepted : toggleOf fresh 1 .answer ≡ done
+pub toggle-accepted : toggleOf first 1 .answer ≡ done
 toggle-accepted = refl
 
 pub start-accepted : startOf (written grey) .answer ≡ done
@@ -139,7 +144,7 @@ module _ (pictures : List ℕ) (two : length pictures ≡ 8) where
 
   pub host-accepted : host.hostAnswer image 1 blank pictures filled ≡ done
   unfolding wordsOpen host.hostAnswer wordsFrom littleAt tab painting.paintRefusal
-  host-accepted = rw (eq-eqb _ _ blank-long, two)
+  host-accepted = rw (ne-eqb _ _ blank-rough, eq-eqb _ _ blank-long, two)
 
   -- ---- what is promised: the frame of the scene
 
@@ -153,7 +158,7 @@ module _ (pictures : List ℕ) (two : length pictures ≡ 8) where
 
   pub host-scene : hostScene pictures ≡ scene pictures
   unfolding wordsOpen wordsFrom littleAt tab
-  host-scene = refl
+  host-scene = rw (ne-eqb _ _ blank-rough)
 
   pub hosted-is : hosted pictures ≡ painting.frameOf (scene pictures)
   unfolding host.hostOutput
@@ -196,20 +201,20 @@ night-fill = refl
 -- ---- a line: answer 0, no error, one by one pixel, and the frame
 
 -- with any tables of the right length
-module _ (t : List ℕ) (long : length t ≡ tablesLen) where
-  line-white : lineOf fresh t (line white) .printed ≡ replyWith (255 ∷ 255 ∷ 255 ∷ 255 ∷ [])
+module _ (t : List ℕ) (long : length t ≡ tablesLen 1) where
+  line-white : lineOf first t (line white) .printed ≡ replyWith (255 ∷ 255 ∷ 255 ∷ 255 ∷ [])
   unfolding lineOpen
   line-white = rw (eq-eqb _ _ long)
 
-  line-clear : lineOf fresh t (line clear) .printed ≡ replyWith (100 ∷ 100 ∷ 100 ∷ 255 ∷ [])
+  line-clear : lineOf first t (line clear) .printed ≡ replyWith (100 ∷ 100 ∷ 100 ∷ 255 ∷ [])
   unfolding lineOpen
   line-clear = rw (eq-eqb _ _ long)
 
-  line-dim : lineOf fresh t (line dim) .printed ≡ replyWith (100 ∷ 100 ∷ 100 ∷ 255 ∷ [])
+  line-dim : lineOf first t (line dim) .printed ≡ replyWith (100 ∷ 100 ∷ 100 ∷ 255 ∷ [])
   unfolding lineOpen
   line-dim = rw (eq-eqb _ _ long)
 
-  line-bright : lineOf fresh t (line bright) .printed ≡ replyWith (101 ∷ 101 ∷ 101 ∷ 255 ∷ [])
+  line-bright : lineOf first t (line bright) .printed ≡ replyWith (101 ∷ 101 ∷ 101 ∷ 255 ∷ [])
   unfolding lineOpen
   line-bright = rw (eq-eqb _ _ long)
 
@@ -232,20 +237,20 @@ module _ (n : ℕ) where
 
 -- ---- the end of a sheet and a block run that line too
 
-last-line : (pictures : List ℕ) → lastRun fresh blank (line pictures) ≡ lineOf fresh blank (line pictures)
+last-line : (pictures : List ℕ) → lastRun first blank (line pictures) ≡ lineOf first blank (line pictures)
 unfolding lastRun digitsOf
 last-line pictures =
     let some : length (line pictures) ≡ 0 → ⊥ = λ e. omega arith in rw (ne-eqb (length (line pictures)) 0 some)
 
 pub finish-line : (pictures : List ℕ)
-    → finishOf (gathered (line pictures)) blank (slate (line pictures)) ≡ lineOf fresh blank (line pictures)
+    → finishOf (gathered (line pictures)) blank (slate (line pictures)) ≡ lineOf first blank (line pictures)
 unfolding over
 finish-line pictures =
-    ap (lastRun fresh blank) (take-at (line pictures) _ (length (line pictures)) refl) ∙ last-line pictures
+    ap (lastRun first blank) (take-at (line pictures) _ (length (line pictures)) refl) ∙ last-line pictures
 
 -- what `feed` prints of the pictures' line
 abbrev Fed : List ℕ → Type 0
-Fed pictures = feedOf begun blank (slate []) (block pictures) .printed ≡ lineOf fresh blank (line pictures) .printed
+Fed pictures = feedOf begun blank (slate []) (block pictures) .printed ≡ lineOf first blank (line pictures) .printed
 
 pub feed-white : Fed white
 unfolding feedOf turnsOf goesOn turnOf nextRun fedRun lineIn endsIn indexOf over digitsOf digitOf

@@ -24,7 +24,8 @@ use Rattle.words.proofs.CheckLaws.{check-accepted}
 use Rattle.words.specs.Fields.{shownOf, layerOf}
 use Rattle.words.specs.Check.{reservedAt, screenOf, placeOf, placeAt, clashOf, clashAt, clashBelow, checkOf, Accepted}
 use Rattle.words.specs.Pictures.{pictureLen, pictureLenAt, pictureStart, picturesLen}
-use Rattle.tables.specs.Geometry.{tablesLen, kindAt, kindLen}
+use Rattle.profiles.specs.Profile.{oneBit}
+use Rattle.tables.specs.Geometry.{tablesLen, bankLen, kindAt, kindLen}
 use Rattle.draw.specs.Box.{boxAfter, boxOf}
 use Rattle.draw.specs.Drawing.{drawnBy, drawnTo, countOf, indexAt}
 use Rattle.frames.specs.Scene.{Scene}
@@ -67,24 +68,24 @@ drawOpen = tt
 
 -- with tables of zeros
 ready-of : (s : Scene) → length (s .words) ≡ 52 → Accepted (s .words) → shownOf (s .words) ≡ true
-    → length (s .pictures) ≡ picturesLen (s .words) → s .tables ≡ none → Ready s
-ready-of s long accepted shown pictures e =
+    → length (s .pictures) ≡ picturesLen (s .words) → s .profile ≡ oneBit → s .tables ≡ none → Ready s
+ready-of s long accepted shown pictures one e =
     record {
       long = long;
       accepted = accepted;
       shown = shown;
-      tables = rw e (length-replicate {A = ℕ} tablesLen 0);
+      tables = rw (one, e) (length-replicate {A = ℕ} (tablesLen 1) 0);
       pictures = pictures;
     }
 
 -- accepted, with right buffers, whatever the pixels
 ready-apart : (p q : ℕ) → Ready (sceneOn apart (sand p) (ink q))
 unfolding acceptOpen
-ready-apart p q = ready-of _ refl (check-accepted _ refl) refl refl refl
+ready-apart p q = ready-of _ refl (check-accepted _ refl) refl refl refl refl
 
 ready-shared : (p q : ℕ) → Ready (sceneOn shared (sand p) (ink q))
 unfolding acceptOpen
-ready-shared p q = ready-of _ refl (check-accepted _ refl) refl refl refl
+ready-shared p q = ready-of _ refl (check-accepted _ refl) refl refl refl refl
 
 -- ---- split
 
@@ -147,7 +148,7 @@ wide-neighbours =
 
 ready-wide : (p q : ℕ) → Ready (sceneOn wideApart (sand p) (ink q))
 unfolding acceptOpen
-ready-wide p q = ready-of _ refl (check-accepted _ refl) refl refl refl
+ready-wide p q = ready-of _ refl (check-accepted _ refl) refl refl refl refl
 
 -- layers with depths free between them: the one at depth 1 takes 5, the other 1, and the frame stays
 pub exchange-gap : (exchanged wideApart 0 1 ≡ words brown (dot 5 0) (dot 1 1))
@@ -160,7 +161,7 @@ exchange-gap = (refl, exchange wideBeside 0 1 (ready-wide 128 128) wide-neighbou
 -- another background, and other pixels and alphas of layer 0
 ready-lit : (p q : ℕ) → Ready (sceneOn lit (ink p) (ink q))
 unfolding acceptOpen
-ready-lit p q = ready-of _ refl (check-accepted _ refl) refl refl refl
+ready-lit p q = ready-of _ refl (check-accepted _ refl) refl refl refl refl
 
 -- of the eight layers only layer 1 is at depth 1 or above
 upper : (m : ℕ) → m < 8 → 1 ≤ layerOf shared m .depth → m ≡ 1
@@ -181,6 +182,7 @@ start-one = refl
 other-under : OtherUnder (covered 255) (relaid 255) 1
 other-under =
     record {
+      profile = refl;
       frame = refl;
       size = refl;
       banks = refl;
@@ -228,7 +230,8 @@ opaque-faded = refl
 -- ---- invisible
 
 -- tables with a box are as long as tables are
-box-long : (colour : List ℕ) → length colour ≡ 4 → length (boxIn colour) ≡ tablesLen
+box-long : (colour : List ℕ) → length colour ≡ 4 → length (boxIn colour) ≡ tablesLen 1
+unfolding tablesLen bankLen
 box-long colour four = simp (length-append, length-replicate) (omega arith)
 
 clear : Clear (veiled 0) 0
@@ -248,7 +251,7 @@ invisible-1 = refl
 
 -- a graphics layer whose colours are all clear, whatever it draws
 no-colour : Clear (drawnScene 0) 0
-unfolding alphaOpen drawOpen
+unfolding alphaOpen drawOpen tablesLen bankLen
 no-colour v u hv hu = let a : u ≡ 0 = omega arith in let b : v ≡ 0 = omega arith in rw (a, b)
 
 ready-drawn : (alpha : ℕ) → Ready (drawnScene alpha)
@@ -265,7 +268,7 @@ ready-drawn alpha =
 -- withdrawn it leaves the frame; in a colour that is not clear it does not
 pub invisible-graphics : (frameOf (without (drawnScene 0) 0) ≡ frameOf (drawnScene 0))
     × ((channelAt (drawnScene 0) 0 0 0 ∷ channelAt (drawnScene 255) 0 0 0 ∷ []) ≡ 16 ∷ 200 ∷ [])
-unfolding frameOpen drawOpen
+unfolding frameOpen drawOpen tablesLen bankLen
 invisible-graphics = (invisible (drawnScene 0) 0 (omega arith) (ready-drawn 0) no-colour .1, refl)
 
 -- ---- between
@@ -286,7 +289,7 @@ bytes-zero (suc n) i = bytes-more 0 (replicate n 0) (omega arith) (bytes-zero n)
 
 pub between-worked : Between beside (frameOf beside)
 between-worked =
-    between beside (ready-apart 128 128) (bytes-zero tablesLen)
+    between beside (ready-apart 128 128) (bytes-zero (tablesLen 1))
     (bytes-pixel 200 100 50 128 (ink 128) (omega arith) (omega arith) (omega arith) (omega arith)
     (bytes-pixel 1 2 3 128 [] (omega arith) (omega arith) (omega arith) (omega arith) (λ i. omega arith)))
 

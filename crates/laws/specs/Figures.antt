@@ -32,7 +32,7 @@ box weight =
 
 -- the colour index at (u, v) after that box alone: 0 where it left the pixel, 1 where it drew it
 abbrev boxed : ℕ → ℕ → ℕ → ℕ
-boxed weight u v = indexAt (box weight) [] [] v u
+boxed weight u v = indexAt 1 (box weight) [] [] v u
 
 -- "left"
 abbrev left : ℕ

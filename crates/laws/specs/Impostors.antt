@@ -22,7 +22,7 @@ use Rattle.frames.specs.Band.{bandBy, pixelAt}
 use Rattle.frames.specs.Frame.{fillOf}
 use Rattle.display.specs.declared.Display.{Display}
 use Rattle.display.specs.declared.Told.{Told}
-use Rattle.display.specs.State.{fresh, told, withErrors, startOf}
+use Rattle.display.specs.State.{told, withErrors, startOf}
 use Rattle.display.specs.Paint.{sceneWith}
 use Rattle.hex.specs.Hex.{bytesIn}
 use Rattle.steps.specs.Form.{picturePlace}
@@ -30,7 +30,7 @@ use Rattle.steps.specs.Steps.{Midway, midway, runOf, stepsOf}
 use Rattle.line.specs.Sizes.{mostPrinted}
 use Rattle.line.specs.Line.{startedOf, framedOf, replyOf, replyText}
 use Rattle.lines.specs.Sizes.{outLen}
-use Rattle.laws.specs.Small.{blank, filled, white, line, page, scene, hostScene, Paints, Frames, Hosts, Prints}
+use Rattle.laws.specs.Small.{first, blank, filled, white, line, page, scene, hostScene, Paints, Frames, Hosts, Prints}
 use Rattle.laws.specs.Small.{Finishes, Feeds}
 
 -- ---- of any call
@@ -142,7 +142,7 @@ hostBy rule pictures = framedBy rule (hostScene pictures)
 
 -- of a line, of the end of a sheet and of a block, in n bytes
 abbrev pub lineBy : Rule → ℕ → List ℕ → List ℕ
-lineBy rule n pictures = over (printedBy rule fresh blank (line pictures)) (page n)
+lineBy rule n pictures = over (printedBy rule first blank (line pictures)) (page n)
 
 -- a rule that breaks the contract of each call that paints, with the white picture
 pub record Breaks (rule : Rule) : Type 0 where

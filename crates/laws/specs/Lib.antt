@@ -7,3 +7,4 @@ pub mod Small
 pub mod Impostors
 pub mod Rows
 pub mod Worked
+pub mod OneBit

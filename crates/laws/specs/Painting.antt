@@ -9,6 +9,7 @@ use Rattle.lists.specs.Choice.{pick, both}
 use Rattle.lists.specs.Runs.{run}
 use Rattle.lists.specs.Cut.{cut}
 use Rattle.mix.specs.Pixel.{pixelLen, channels, opaque}
+use Rattle.profiles.specs.Profile.{bitsOf}
 use Rattle.words.specs.declared.fields.Layer.{Layer}
 use Rattle.words.specs.Fields.{shownOf, widthOf, heightOf, groundOf, layerOf}
 use Rattle.words.specs.Check.{Accepted}
@@ -28,7 +29,7 @@ pub record Ready (s : Scene) : Type 0 where
   pub long : length (s .words) ≡ 52
   pub accepted : Accepted (s .words)
   pub shown : shownOf (s .words) ≡ true
-  pub tables : length (s .tables) ≡ tablesLen
+  pub tables : length (s .tables) ≡ tablesLen (bitsOf (s .profile))
   pub pictures : length (s .pictures) ≡ picturesLen (s .words)
 
 -- an enabled layer
@@ -71,7 +72,7 @@ ownOver s n y x c = ownAt s n (downOf (layerOf (s .words) n) y) (acrossOf (layer
 
 -- the same scene with other words
 abbrev pub withWords : Scene → List ℕ → Scene
-withWords s w = sceneOf w (s .frame) (s .tables) (s .pictures)
+withWords s w = sceneOf (s .profile) w (s .frame) (s .tables) (s .pictures)
 
 -- ---- "two layers next to each other in depth that share no pixel may exchange depths"
 
@@ -129,6 +130,7 @@ withAlphaOf l k = layerWith (l .on) (l .depth) l k
 
 -- t is s in all but this: the background, and the pixels and alphas of layers under depth d
 pub record OtherUnder (s t : Scene) (d : ℕ) : Type 0 where
+  pub profile : t .profile ≡ s .profile
   pub frame : t .frame ≡ s .frame
   pub size : getD (t .words) 1 0 ≡ getD (s .words) 1 0
   pub banks : getD (t .words) 3 0 ≡ getD (s .words) 3 0
@@ -136,7 +138,8 @@ pub record OtherUnder (s t : Scene) (d : ℕ) : Type 0 where
   pub under : (m : ℕ) → m < 8 → layerOf (s .words) m .depth < d
       → layerOf (t .words) m ≡ withAlphaOf (layerOf (s .words) m) (layerOf (t .words) m)
   pub tables : (m kind : ℕ) → m < 8 → d ≤ layerOf (s .words) m .depth
-      → bankBytes (s .words) (t .tables) m kind ≡ bankBytes (s .words) (s .tables) m kind
+      → bankBytes (bitsOf (s .profile)) (s .words) (t .tables) m kind
+      ≡ bankBytes (bitsOf (s .profile)) (s .words) (s .tables) m kind
   pub pictures : (m k : ℕ) → m < 8 → d ≤ layerOf (s .words) m .depth → k < pictureLenAt (s .words) m
       → getD (t .pictures) (pictureStart (s .words) m + k) 0 ≡ getD (s .pictures) (pictureStart (s .words) m + k) 0
 
@@ -156,7 +159,8 @@ withoutPicture w n pictures = cut (pictureStart w n) (pictureLenAt w n) pictures
 
 -- layer n switched off, and its picture taken out
 unfoldable pub without : Scene → ℕ → Scene
-without s n = sceneOf (withOff (s .words) n) (s .frame) (s .tables) (withoutPicture (s .words) n (s .pictures))
+without s n =
+    sceneOf (s .profile) (withOff (s .words) n) (s .frame) (s .tables) (withoutPicture (s .words) n (s .pictures))
 
 -- ---- "each channel lies between the least and greatest of the background's and the covering layers' there"
 

@@ -1,4 +1,4 @@
--- The rows of 01 "Answers by number": what a row says, and the case of each number. `proofs/Rows.antt`
+-- The rows of 01 "Answers by number" and of 02's numbers: what a row says, and the case of each number. `proofs/Rows.antt`
 -- shows a row of each call. Assumes nothing.
 use Prim.Native.Nat.{ℕ, _+_, _*_, _<_}
 use mathlib.Core.Path.{_≡_}
@@ -14,7 +14,7 @@ use Rattle.words.specs.Pictures.{picturesLen}
 use Rattle.tables.specs.Geometry.{tablesLen}
 use Rattle.tables.specs.Selection.{endOf, namedBy}
 use Rattle.display.specs.declared.Display.{Display}
-use Rattle.display.specs.State.{stepped, startOf}
+use Rattle.display.specs.State.{bitsIn, stepped, startOf}
 use Rattle.display.specs.Put.{putOf, putTables}
 use Rattle.display.specs.Paint.{fillTold, fillBytes, paintTold, paintBytes, frameTold, frameBytes}
 use Rattle.host.specs.Host.{hostAnswer, hostOutput}
@@ -102,25 +102,29 @@ NoSize w = EmptyScreen w
 abbrev pub WrongOutput : List ℕ → List ℕ → Type 0
 WrongOutput w out = ¬ (length out ≡ pixelLen * (widthOf w * heightOf w))
 
--- 6: "tables not 29,696 bytes"
-abbrev pub WrongTables : List ℕ → Type 0
-WrongTables tables = ¬ (length tables ≡ tablesLen)
+-- 6: "tables not 29,696 bytes"; 02 K2: "6 compares with the chosen length", of so many bits a glyph pixel
+abbrev pub WrongTables : ℕ → List ℕ → Type 0
+WrongTables bits tables = ¬ (length tables ≡ tablesLen bits)
+
+-- "in the host entry with both"
+abbrev pub WrongBoth : List ℕ → Type 0
+WrongBoth tables = ¬ ((length tables ≡ tablesLen 1) ⊎ (length tables ≡ tablesLen 2))
 
 -- 14: "pictures of the wrong total length"
 abbrev pub WrongPictures : List ℕ → List ℕ → Type 0
 WrongPictures w pictures = ¬ (length pictures ≡ picturesLen w)
 
--- "13, 6, 14": 6 with 13 not given
-abbrev pub Case6 : List ℕ → List ℕ → List ℕ → Type 0
-Case6 w out tables = (¬ WrongOutput w out) × WrongTables tables
+-- "13, 6, 14", where the tables are wrong in the case `Wrong`: 6 with 13 not given
+abbrev pub Case6 : List ℕ → List ℕ → Type 0 → Type 0
+Case6 w out Wrong = (¬ WrongOutput w out) × Wrong
 
 -- 14 with neither
-abbrev pub Case14 : List ℕ → List ℕ → List ℕ → List ℕ → Type 0
-Case14 w out tables pictures = (¬ WrongOutput w out) × ((¬ WrongTables tables) × WrongPictures w pictures)
+abbrev pub Case14 : List ℕ → List ℕ → Type 0 → List ℕ → Type 0
+Case14 w out Wrong pictures = (¬ WrongOutput w out) × ((¬ Wrong) × WrongPictures w pictures)
 
 -- none of the three
-abbrev pub BuffersFit : List ℕ → List ℕ → List ℕ → List ℕ → Type 0
-BuffersFit w out tables pictures = (¬ WrongOutput w out) × ((¬ WrongTables tables) × (¬ WrongPictures w pictures))
+abbrev pub BuffersFit : List ℕ → List ℕ → Type 0 → List ℕ → Type 0
+BuffersFit w out Wrong pictures = (¬ WrongOutput w out) × ((¬ Wrong) × (¬ WrongPictures w pictures))
 
 -- 3: "nothing selected"
 abbrev pub NotSelected : Display → Type 0
@@ -132,7 +136,11 @@ BankActive d = namedBy (d .active) (d .selection .number) ≡ true
 
 -- 5: "place is at the kind's end"
 abbrev pub BankFull : Display → Type 0
-BankFull d = d .selection .place ≡ endOf (d .selection .number)
+BankFull d = d .selection .place ≡ endOf (bitsIn d) (d .selection .number)
+
+-- 02 K2: a bit number "1 or 2"
+abbrev pub OneOrTwo : ℕ → Type 0
+OneOrTwo bits = (bits ≡ 1) ⊎ (bits ≡ 2)
 
 -- 16: "register image not 208 bytes"
 abbrev pub WrongImage : List ℕ → Type 0

@@ -7,6 +7,7 @@ use lib.ListN.{length}
 use Rattle.lists.specs.Call.{Meets}
 use Rattle.lists.specs.Over.{over}
 use Rattle.answers.specs.Answers.{done}
+use Rattle.profiles.specs.Profile.{oneBit}
 use Rattle.tables.specs.Geometry.{tablesLen}
 use Rattle.frames.specs.Scene.{Scene}
 use Rattle.display.specs.declared.Display.{Display}
@@ -61,6 +62,10 @@ night = 0
 
 -- ---- states
 
+-- a display of one bit a glyph pixel, as a sheet begins with it
+abbrev pub first : Display
+first = fresh oneBit
+
 -- a state with words written
 abbrev pub writtenTo : Display → List Write → Display
 writtenTo d [] = d
@@ -68,7 +73,7 @@ writtenTo d (w ∷ rest) = writtenTo (writeOf d (w .register) (w .value) .state)
 
 -- the words of that one pixel written
 abbrev pub written : ℕ → Display
-written ground = writtenTo fresh (onePixel ground)
+written ground = writtenTo first (onePixel ground)
 
 -- and let in by a start
 abbrev pub started : ℕ → Display
@@ -76,11 +81,11 @@ started ground = startOf (written ground) .state
 
 -- the update bit alone: a start is refused with 8, since the screen has no size
 abbrev pub sizeless : Display
-sizeless = writeOf fresh 0 4 .state
+sizeless = writeOf first 0 4 .state
 
 -- bank 1 of controller 0's instructions selected: the active words name bank 0
 abbrev pub selecting : Display
-selecting = selectOf fresh 1 .state
+selecting = selectOf first 1 .state
 
 -- a run of one write: 1 to register 0
 abbrev pub oneWrite : List ℕ
@@ -90,7 +95,7 @@ oneWrite = 0 ∷ 1 ∷ 0 ∷ 0 ∷ 0 ∷ []
 
 -- tables of zeros, as the sheet program makes them
 abbrev pub blank : List ℕ
-blank = zeros tablesLen
+blank = zeros (tablesLen 1)
 
 -- the output of that one pixel, filled with grey
 abbrev pub filled : List ℕ
@@ -147,7 +152,7 @@ slate text = over text (zeros mostKept)
 
 -- a sheet of which this text has come
 abbrev pub gathered : List ℕ → Going
-gathered text = record { state = fresh; held = length text }
+gathered text = record { state = first; held = length text }
 
 -- an output of n bytes that is lent for what is printed
 abbrev pub page : ℕ → List ℕ
@@ -177,7 +182,7 @@ hosted pictures = hostOutput image 1 blank pictures filled
 
 -- that of the line, in n bytes, and so of the end of a sheet and of a block
 abbrev pub printed : ℕ → List ℕ → List ℕ
-printed n pictures = over (lineOf fresh blank (line pictures) .printed) (page n)
+printed n pictures = over (lineOf first blank (line pictures) .printed) (page n)
 
 -- one frame of all that paint
 pub record Promised (pictures bytes : List ℕ) : Type 0 where
@@ -207,7 +212,7 @@ Hosts pictures out = (answer : ℕ) × Meets hostCall (image, 1, blank, pictures
 abbrev pub Prints : List ℕ → List ℕ → Type 0
 Prints pictures out =
     (r : Printed) × (tables : List ℕ)
-    × Meets runLineCall (fresh, blank, line pictures, page mostPrinted) (r, tables, out)
+    × Meets runLineCall (first, blank, line pictures, page mostPrinted) (r, tables, out)
 
 -- of the end of a sheet
 abbrev pub Finishes : List ℕ → List ℕ → Type 0

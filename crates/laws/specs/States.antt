@@ -9,14 +9,16 @@ use Rattle.words.specs.Pictures.{picturesLen}
 use Rattle.tables.specs.Geometry.{tablesLen}
 use Rattle.frames.specs.Frame.{frameLen, outputRefusal, tablesRefusal, picturesRefusal}
 use Rattle.display.specs.declared.Display.{Display}
+use Rattle.display.specs.State.{bitsIn}
 
 -- no start has let words in: the active words are still a fresh state's
 abbrev pub Unstarted : Display → Type 0
 Unstarted d = d .active ≡ replicate 52 0
 
--- the tables t, the pictures p and the output o are as long as the active words ask: rows 6, 14 and 13
+-- the tables t are as long as the state's bits a glyph pixel ask, the pictures p and the output o as the active words do:
+-- rows 6, 14 and 13
 pub record Fitting (d : Display) (t p o : List ℕ) : Type 0 where
-  pub tables : length t ≡ tablesLen
+  pub tables : length t ≡ tablesLen (bitsIn d)
   pub pictures : length p ≡ picturesLen (d .active)
   pub output : length o ≡ frameLen (d .active)
 
@@ -24,4 +26,4 @@ pub record Fitting (d : Display) (t p o : List ℕ) : Type 0 where
 abbrev pub bufferRefusal : Display → List ℕ → List ℕ → List ℕ → ℕ
 bufferRefusal d t p o =
     orElse (outputRefusal (d .active) (length o))
-    (orElse (tablesRefusal (length t)) (picturesRefusal (d .active) (length p)))
+    (orElse (tablesRefusal (bitsIn d) (length t)) (picturesRefusal (d .active) (length p)))

@@ -2,6 +2,7 @@
 use Prim.Native.Nat.{ℕ, _+_, _-_, _*_, _^_}
 use mathlib.Core.List.{List, [], _∷_, _++_}
 use lib.ListN.{length, replicate}
+use Rattle.profiles.specs.Profile.{oneBit}
 use Rattle.tables.specs.Geometry.{tablesLen}
 use Rattle.frames.specs.Scene.{Scene, sceneOf}
 use Rattle.laws.specs.Figures.{bytesOf}
@@ -70,19 +71,19 @@ ink alpha = 1 ∷ 2 ∷ 3 ∷ alpha ∷ []
 
 -- all zero
 abbrev pub none : List ℕ
-none = replicate tablesLen 0
+none = replicate (tablesLen 1) 0
 
 -- those of layer 0: a box of its one pixel in colour 1, and then END; colour 0 is clear, and colour 1 given
 abbrev pub boxIn : List ℕ → List ℕ
 boxIn colour =
     bytesOf (10 * 2 ^ 28) ++ bytesOf 0 ++ bytesOf 0 ++ bytesOf 1 ++ replicate 756 0 ++ colour
-    ++ replicate (tablesLen - 776) 0
+    ++ replicate (tablesLen 1 - 776) 0
 
 -- ---- scenes
 
 -- at a frame number, with two pictures
 abbrev pub sceneAt : ℕ → List ℕ → List ℕ → List ℕ → Scene
-sceneAt frame w p₀ p₁ = sceneOf w frame none (p₀ ++ p₁)
+sceneAt frame w p₀ p₁ = sceneOf oneBit w frame none (p₀ ++ p₁)
 
 -- at frame 0
 abbrev pub sceneOn : List ℕ → List ℕ → List ℕ → Scene
@@ -122,4 +123,4 @@ veiled alpha = sceneOn apart (sand alpha) (ink 255)
 
 -- a graphics layer that draws in a colour of an alpha, beside an opaque frame layer
 abbrev pub drawnScene : ℕ → Scene
-drawnScene alpha = sceneOf drawing 0 (boxIn (sand alpha)) (ink 255)
+drawnScene alpha = sceneOf oneBit drawing 0 (boxIn (sand alpha)) (ink 255)

@@ -8,6 +8,7 @@ use lib.Dec.{ltb, leb, eqb}
 use Rattle.bytes.specs.Bytes.{indexOf}
 use Rattle.lists.specs.Choice.{pick, choose, both}
 use Rattle.lists.specs.Over.{over}
+use Rattle.profiles.specs.Profile.{oneBit}
 use Rattle.display.specs.declared.Display.{Display}
 use Rattle.display.specs.State.{fresh}
 use Rattle.line.specs.Sizes.{mostPrinted, lineFeed}
@@ -48,9 +49,10 @@ lastRun d t x = choose (eqb (length x) 0) (idle d t) (lineOf d t x)
 
 -- ---- a batch of lines
 
--- "State and tables, all zero at first": where a sheet begins, nothing has come of a line
+-- "State and tables, all zero at first"; 02 K2: "the sheet program has one" bit a glyph pixel: where a sheet begins, nothing
+-- has come of a line
 abbrev pub begun : Going
-begun = record { state = fresh; held = 0 }
+begun = record { state = fresh oneBit; held = 0 }
 
 -- what has come of the next line, in the buffer u
 abbrev pub lineBegun : Going → List ℕ → List ℕ

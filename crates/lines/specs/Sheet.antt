@@ -5,6 +5,7 @@ use mathlib.Core.List.{List, [], _∷_, _++_}
 use lib.ListN.{length}
 use lib.Dec.{eqb}
 use Rattle.lists.specs.Choice.{choose}
+use Rattle.profiles.specs.Profile.{oneBit}
 use Rattle.tables.specs.Geometry.{tablesLen}
 use Rattle.display.specs.declared.Display.{Display}
 use Rattle.display.specs.State.{fresh}
@@ -30,10 +31,10 @@ linesOf d t (x ∷ rest) = after (lineOf d t x .printed) (linesOf (lineOf d t x 
 unfoldable pub sheetOf : Display → List ℕ → List ℕ → Ran
 sheetOf d t bytes = linesOf d t (linesFrom [] bytes)
 
--- "State and tables, all zero at first": the tables
+-- "State and tables, all zero at first"; 02 K2: "the sheet program has one" bit a glyph pixel: the tables
 abbrev pub firstTables : List ℕ
-firstTables = zeros tablesLen
+firstTables = zeros (tablesLen 1)
 
 -- what the program prints
 unfoldable pub programOf : List ℕ → List ℕ
-programOf bytes = sheetOf fresh firstTables bytes .printed
+programOf bytes = sheetOf (fresh oneBit) firstTables bytes .printed

@@ -38,10 +38,9 @@ pub struct Fed {
 pub fn first() -> Going
     ensures { λ r. ⌜ r ≡ begun ⌝ }
 {
-    Going {
-        state: Display::new(),
-        held: 0,
-    }
+    let told = Display::new(1);
+    let state = told.state;
+    Going { state, held: 0 }
 }
 
 // The bytes of a part behind those of the line that have come; how many are now kept.

@@ -18,19 +18,20 @@ use Rattle.loads.specs.declared.Went.{Went}
 
 -- ---- puts
 
--- what a put is refused with whatever its place: of the active words, the selection, and the tables' length
-unfoldable pub refusalOf : List ℕ → Bool → ℕ → ℕ → ℕ
-refusalOf active made number long =
-    orElse (pick (eqb long tablesLen) done tablesLength)
+-- what a put is refused with whatever its place: of the bits a glyph pixel has, the active words, the selection, and the
+-- tables' length
+unfoldable pub refusalOf : ℕ → List ℕ → Bool → ℕ → ℕ → ℕ
+refusalOf bits active made number long =
+    orElse (pick (eqb long (tablesLen bits)) done tablesLength)
     (orElse (pick made done notSelected) (pick (namedBy active number) bankActive done))
 
 -- the same of a run of n bytes: an empty one is not refused
-unfoldable pub refusalFor : List ℕ → Selection → ℕ → ℕ → ℕ
-refusalFor active s long n = pick (eqb n 0) done (refusalOf active (s .made) (s .number) long)
+unfoldable pub refusalFor : ℕ → List ℕ → Selection → ℕ → ℕ → ℕ
+refusalFor bits active s long n = pick (eqb n 0) done (refusalOf bits active (s .made) (s .number) long)
 
 -- how many of n bytes fit from a place on
-abbrev pub fitsOf : ℕ → ℕ → ℕ → ℕ
-fitsOf place number n = min n (endOf number - place)
+abbrev pub fitsOf : ℕ → ℕ → ℕ → ℕ → ℕ
+fitsOf bits place number n = min n (endOf bits number - place)
 
 -- a list with bytes in place of those from a place on
 unfoldable pub stored : List ℕ → ℕ → List ℕ → List ℕ
@@ -41,23 +42,24 @@ abbrev pub loaded : ℕ → ℕ → ℕ → ℕ → Loaded
 loaded place errors answer count = record { place = place; errors = errors; answer = answer; done = count }
 
 -- what n bytes leave and answer where none is refused but for the table's end
-unfoldable pub fitted : ℕ → Selection → ℕ → Loaded
-fitted errors s n =
-    choose (eqb (fitsOf (s .place) (s .number) n) n) (loaded (s .place + n) errors done n)
-    (loaded (s .place + fitsOf (s .place) (s .number) n) (bitOr errors (2 ^ (4 * controllerOf (s .number) + 1)))
-    bankFull (fitsOf (s .place) (s .number) n))
+unfoldable pub fitted : ℕ → ℕ → Selection → ℕ → Loaded
+fitted bits errors s n =
+    choose (eqb (fitsOf bits (s .place) (s .number) n) n) (loaded (s .place + n) errors done n)
+    (loaded (s .place + fitsOf bits (s .place) (s .number) n) (bitOr errors (2 ^ (4 * controllerOf (s .number) + 1)))
+    bankFull (fitsOf bits (s .place) (s .number) n))
 
 -- and where they may be
-unfoldable pub loadOf : List ℕ → ℕ → Selection → ℕ → ℕ → Loaded
-loadOf active errors s long n =
-    choose (eqb (refusalFor active s long n) done) (fitted errors s n)
-    (loaded (s .place) errors (refusalFor active s long n) 0)
+unfoldable pub loadOf : ℕ → List ℕ → ℕ → Selection → ℕ → ℕ → Loaded
+loadOf bits active errors s long n =
+    choose (eqb (refusalFor bits active s long n) done) (fitted bits errors s n)
+    (loaded (s .place) errors (refusalFor bits active s long n) 0)
 
 -- the tables: those bytes of the run that fit, where nothing refuses them
-unfoldable pub loadTables : List ℕ → Selection → List ℕ → List ℕ → List ℕ
-loadTables active s tables run =
-    choose (eqb (refusalFor active s (length tables) (length run)) done)
-    (stored tables (firstByteOf (s .number) + s .place) (take (fitsOf (s .place) (s .number) (length run)) run)) tables
+unfoldable pub loadTables : ℕ → List ℕ → Selection → List ℕ → List ℕ → List ℕ
+loadTables bits active s tables run =
+    choose (eqb (refusalFor bits active s (length tables) (length run)) done)
+    (stored tables (firstByteOf bits (s .number) + s .place) (take (fitsOf bits (s .place) (s .number) (length run)) run))
+    tables
 
 -- ---- writes
 

@@ -17,11 +17,11 @@ use numbers::least;
 use numbers::wide;
 use numbers::word;
 use tables::Selection;
-use tables::TABLES_LEN;
 use tables::controller_of;
 use tables::end_of;
 use tables::first_byte_of;
 use tables::is_named;
+use tables::tables_len;
 
 pub const REGISTERS: u32 = 52;
 
@@ -45,10 +45,12 @@ pub struct Went {
 }
 
 // What a put is refused with whatever its place.
-fn refusal_of(active: &[u32; 52], made: bool, number: u32, long: usize) -> u8
-    ensures { λ r. ⌜ r ≡ refusalOf (now (active .entry)) made number long ⌝ }
+fn refusal_of(bits: usize, active: &[u32; 52], made: bool, number: u32, long: usize) -> u8
+    requires { ⌜ bits ≤ 2 ⌝ }
+    ensures { λ r. ⌜ r ≡ refusalOf bits (now (active .entry)) made number long ⌝ }
 {
-    if long != TABLES_LEN {
+    let whole = tables_len(bits);
+    if long != whole {
         return TABLES_LENGTH;
     }
     if !made {
@@ -68,10 +70,11 @@ fn with_full(errors: u32, number: u32) -> u32
 }
 
 // How many of n bytes fit from a place on: up to the selected table's end.
-fn fitting(place: u32, number: u32, n: usize) -> usize
-    ensures { λ r. ⌜ (r ≡ fitsOf place number n) × (place + r < 2 ^ 32) ⌝ }
+fn fitting(bits: usize, place: u32, number: u32, n: usize) -> usize
+    requires { ⌜ bits ≤ 2 ⌝ }
+    ensures { λ r. ⌜ (r ≡ fitsOf bits place number n) × (place + r < 2 ^ 32) ⌝ }
 {
-    let end = end_of(number);
+    let end = end_of(bits, number);
     if end <= place {
         return 0;
     }
@@ -79,15 +82,15 @@ fn fitting(place: u32, number: u32, n: usize) -> usize
 }
 
 // Bytes that fit, from a place of the selected table on.
-fn store(tables: &mut [u8], place: u32, number: u32, part: &[u8])
-    requires { ⌜ (length (now tables) ≡ tablesLen) × (length (now part) ≤ endOf number - place) ⌝ }
+fn store(bits: usize, tables: &mut [u8], place: u32, number: u32, part: &[u8])
+    requires { ⌜ (bits ≤ 2) × (length (now tables) ≡ tablesLen bits) × (length (now part) ≤ endOf bits number - place) ⌝ }
     ensures { λ _. ⌜ now (tables .exit)
-        ≡ stored (now (tables .entry)) (firstByteOf number + place) (now (part .entry)) ⌝ }
+        ≡ stored (now (tables .entry)) (firstByteOf bits number + place) (now (part .entry)) ⌝ }
 {
     if part.len() == 0 {
         return;
     }
-    let at = first_byte_of(number) + (place as usize);
+    let at = first_byte_of(bits, number) + (place as usize);
     let end = at + part.len();
     bytes::copy(part, &mut tables[at..end]);
 }
@@ -104,30 +107,32 @@ fn nothing(place: u32, errors: u32, answer: u8) -> Loaded
     }
 }
 
-// Puts each byte of a run, in order, up to the first that is refused.
+// Puts each byte of a run, in order, up to the first that is refused. A glyph's pixel has so many bits.
 pub fn put_run(
+    bits: usize,
     active: &[u32; 52],
     errors: u32,
     selection: Selection,
     tables: &mut [u8],
     run: &[u8],
 ) -> Loaded
-    ensures loaded { λ r. ⌜ r ≡ loadOf (now (active .entry)) errors selection (length (now (tables .entry)))
+    requires { ⌜ bits ≤ 2 ⌝ }
+    ensures loaded { λ r. ⌜ r ≡ loadOf bits (now (active .entry)) errors selection (length (now (tables .entry)))
         (length (now (run .entry))) ⌝ }
     ensures tables { λ _. ⌜ now (tables .exit)
-        ≡ loadTables (now (active .entry)) selection (now (tables .entry)) (now (run .entry)) ⌝ }
+        ≡ loadTables bits (now (active .entry)) selection (now (tables .entry)) (now (run .entry)) ⌝ }
 {
     let place = selection.place;
     if run.len() == 0 {
         return nothing(place, errors, DONE);
     }
     let number = selection.number;
-    let refusal = refusal_of(active, selection.made, number, tables.len());
+    let refusal = refusal_of(bits, active, selection.made, number, tables.len());
     if refusal != DONE {
         return nothing(place, errors, refusal);
     }
-    let fits = fitting(place, number, run.len());
-    store(tables, place, number, &run[..fits]);
+    let fits = fitting(bits, place, number, run.len());
+    store(bits, tables, place, number, &run[..fits]);
     let next = place + (fits as u32);
     if fits == run.len() {
         return Loaded {

@@ -12,6 +12,7 @@ use Rattle.lists.specs.Choice.{pick}
 use Rattle.lists.specs.Tab.{tab}
 use Rattle.lists.specs.Steps.{through}
 use Rattle.lists.proofs.Tab.{tab-cong}
+use Rattle.profiles.specs.Profile.{bitsOf}
 use Rattle.words.specs.Fields.{shownOf, groundOf}
 use Rattle.colours.specs.Rows as rows
 use Rattle.plan.specs.declared.Plan.{Plan}
@@ -27,7 +28,8 @@ use Rattle.scanline.specs.Engine.Lines.{Lent}
 use Rattle.paint.specs.Painted.{answered}
 use Rattle.plan.proofs.PlanLaws.{marks-is}
 
-pub fits-lent : (s : Scene) (a b out : ℕ) → Fits (s .words) a b out (length (s .tables)) (length (s .pictures)) → Lent s
+pub fits-lent : (s : Scene) (a b out : ℕ)
+    → Fits (bitsOf (s .profile)) (s .words) a b out (length (s .tables)) (length (s .pictures)) → Lent s
 fits-lent s a b out f = record { tables = f .lent; pictures = f .shown }
 
 -- ---- a filled output
@@ -63,7 +65,7 @@ fill-done w out out′ a e z f = (sym z ∙ e, rw (← e, eq-eqb a 0 z) f)
 -- ---- a band
 
 pub marks-done : (s : Scene) (a b e : ℕ) (p : Plan) → a ≤ b → b ≤ 8
-    → Planned (s .words) (s .frame) (s .tables) (bandLayers (s .words) a b) p
+    → Planned (bitsOf (s .profile)) (s .words) (s .frame) (s .tables) (bandLayers (s .words) a b) p
     → markedTo p (p .count) e ≡ bandBy (s .words) (markAt s) a b e
 marks-done s a b e p ab b8 q =
     let l = bandLayers (s .words) a b in

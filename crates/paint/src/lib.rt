@@ -14,6 +14,8 @@ use crate::rows::paint_rows;
 use answers::DONE;
 use plan::marks_of;
 use plan::plan_of;
+use profiles::Profile;
+use profiles::bits_of;
 use refusals::DEPTHS;
 use refusals::fill_refusal;
 use refusals::paint_refusal;
@@ -47,6 +49,7 @@ pub fn fill(w: &[u32; 52], out: &mut [u8]) -> u8
 // The band's layers over the ground, and the error word after it, for buffers of the right lengths.
 // With the display off there are no layers.
 fn paint_band(
+    profile: Profile,
     w: &[u32; 52],
     frame: u32,
     errors: u32,
@@ -57,19 +60,19 @@ fn paint_band(
     pictures: &[u8],
     out: &mut [u8],
 ) -> u32
-    requires { ⌜ Lent (sceneOf (now w) frame (now tables) (now pictures)) × (length (now out) ≡ frameLen (now w))
+    requires { ⌜ Lent (sceneOf profile (now w) frame (now tables) (now pictures)) × (length (now out) ≡ frameLen (now w))
         × (0 < widthOf (now w)) × (low ≤ high) × (high ≤ 8) ⌝ }
     ensures errors { λ r. ⌜ r ≡ errorsOf
-        (sceneOf (now (w .entry)) frame (now (tables .entry)) (now (pictures .entry))) low high errors ⌝ }
+        (sceneOf profile (now (w .entry)) frame (now (tables .entry)) (now (pictures .entry))) low high errors ⌝ }
     ensures output { λ _. ⌜ now (out .exit) ≡ bandOf
-        (sceneOf (now (w .entry)) frame (now (tables .entry)) (now (pictures .entry)))
+        (sceneOf profile (now (w .entry)) frame (now (tables .entry)) (now (pictures .entry)))
         low high (choose fresh (fillOf (now (w .entry))) (now (out .entry))) ⌝ }
 {
     if !is_shown(w) {
         lay_ground(out, fresh, ground_of(w));
         return errors;
     }
-    let plan = plan_of(w, frame, tables, low, high);
+    let plan = plan_of(bits_of(profile), w, frame, tables, low, high);
     paint_rows(out, w, tables, pictures, fresh, plan);
     marks_of(plan, errors)
 }
@@ -77,6 +80,7 @@ fn paint_band(
 // Paints the layers of depths from `low` up to but not `high` over what `out` holds. Refused with 15, 12,
 // 13, 6, 14 in this order; a refusal changes nothing.
 pub fn band(
+    profile: Profile,
     w: &[u32; 52],
     frame: u32,
     errors: u32,
@@ -87,19 +91,31 @@ pub fn band(
     out: &mut [u8],
 ) -> Painted
     ensures told { λ r. ⌜ r ≡ toldOf
-        (sceneOf (now (w .entry)) frame (now (tables .entry)) (now (pictures .entry)))
+        (sceneOf profile (now (w .entry)) frame (now (tables .entry)) (now (pictures .entry)))
         low high (now (out .entry)) errors ⌝ }
     ensures output { λ _. ⌜ now (out .exit) ≡ paintAfter
-        (sceneOf (now (w .entry)) frame (now (tables .entry)) (now (pictures .entry))) low high (now (out .entry)) ⌝ }
+        (sceneOf profile (now (w .entry)) frame (now (tables .entry)) (now (pictures .entry))) low high (now (out .entry)) ⌝ }
 {
-    let refusal = paint_refusal(w, low, high, out.len(), tables.len(), pictures.len());
+    let bits = bits_of(profile);
+    let refusal = paint_refusal(bits, w, low, high, out.len(), tables.len(), pictures.len());
     if refusal != DONE {
         return Painted {
             answer: refusal,
             errors: errors,
         };
     }
-    let marks = paint_band(w, frame, errors, low, high, false, tables, pictures, out);
+    let marks = paint_band(
+        profile,
+        w,
+        frame,
+        errors,
+        low,
+        high,
+        false,
+        tables,
+        pictures,
+        out,
+    );
     Painted {
         answer: DONE,
         errors: marks,
@@ -108,6 +124,7 @@ pub fn band(
 
 // Paints a whole frame: a fill, and the layers of every depth. Refused as a band is, before the fill.
 pub fn frame(
+    profile: Profile,
     w: &[u32; 52],
     frame: u32,
     errors: u32,
@@ -116,18 +133,30 @@ pub fn frame(
     out: &mut [u8],
 ) -> Painted
     ensures told { λ r. ⌜ r ≡ toldOf
-        (sceneOf (now (w .entry)) frame (now (tables .entry)) (now (pictures .entry))) 0 8 (now (out .entry)) errors ⌝ }
+        (sceneOf profile (now (w .entry)) frame (now (tables .entry)) (now (pictures .entry))) 0 8 (now (out .entry)) errors ⌝ }
     ensures output { λ _. ⌜ now (out .exit) ≡ frameAfter
-        (sceneOf (now (w .entry)) frame (now (tables .entry)) (now (pictures .entry))) (now (out .entry)) ⌝ }
+        (sceneOf profile (now (w .entry)) frame (now (tables .entry)) (now (pictures .entry))) (now (out .entry)) ⌝ }
 {
-    let refusal = paint_refusal(w, 0, DEPTHS, out.len(), tables.len(), pictures.len());
+    let bits = bits_of(profile);
+    let refusal = paint_refusal(bits, w, 0, DEPTHS, out.len(), tables.len(), pictures.len());
     if refusal != DONE {
         return Painted {
             answer: refusal,
             errors: errors,
         };
     }
-    let marks = paint_band(w, frame, errors, 0, DEPTHS, true, tables, pictures, out);
+    let marks = paint_band(
+        profile,
+        w,
+        frame,
+        errors,
+        0,
+        DEPTHS,
+        true,
+        tables,
+        pictures,
+        out,
+    );
     Painted {
         answer: DONE,
         errors: marks,

@@ -2,7 +2,9 @@
 // colours or frames.
 ghost use mathlib.Core.Path.{_≡_};
 ghost use Prim.Native.Nat.{_<_};
+ghost use lib.Dec.{eqb};
 ghost use lib.ListN.{length};
+ghost use Rattle.lists.specs.Choice.{either};
 ghost use Rattle.lists.specs.Tab.{tab, each};
 ghost use Rattle.tables.specs.Geometry.{instructions};
 ghost use Rattle.draw.specs.Drawing.{drawnBy, countOf, indexAt};
@@ -12,35 +14,83 @@ use draw::instruction::opcode;
 use draw::runs::fill_run;
 use text::draw_text;
 
-// Row v of instruction k, over what the line holds.
-fn draw_one(line: &mut [u8], ins: &[u8], strings: &[u8], font: &[u8], k: usize, v: usize)
-    requires { ⌜ Tables (now ins) (now strings) (now font) × (k < instructions) ⌝ }
-    ensures { λ _. ⌜ now (line .exit)
-        ≡ each (drawnBy (now (ins .entry)) (now (strings .entry)) (now (font .entry)) k v) (now (line .entry)) ⌝ }
+// What an instruction draws; of both, the box first.
+struct Parts {
+    boxed: bool,
+    text: bool,
+}
+
+// By its opcode.
+fn parts_of(op: usize) -> Parts
+    ensures { λ r. ⌜ (r .boxed ≡ either (eqb op 10) (eqb op 14)) × (r .text ≡ either (eqb op 12) (eqb op 14)) ⌝ }
 {
-    match opcode(ins, k) {
-        10 => draw_box(line, ins, k, v),
-        12 => draw_text(line, ins, strings, font, k, v),
-        14 => {
-            draw_box(line, ins, k, v);
-            draw_text(line, ins, strings, font, k, v);
-        }
-        0..=9 | 11 | 13 => {}
-        _ => {}
+    match op {
+        10 => Parts {
+            boxed: true,
+            text: false,
+        },
+        12 => Parts {
+            boxed: false,
+            text: true,
+        },
+        14 => Parts {
+            boxed: true,
+            text: true,
+        },
+        0..=9 | 11 | 13 => Parts {
+            boxed: false,
+            text: false,
+        },
+        _ => Parts {
+            boxed: false,
+            text: false,
+        },
+    }
+}
+
+// Row v of instruction k, over what the line holds. Text is called from here alone: it then becomes a part of
+// the loop over the lines, where a line beside it costs no call.
+fn draw_one(
+    line: &mut [u8],
+    bits: usize,
+    ins: &[u8],
+    strings: &[u8],
+    font: &[u8],
+    k: usize,
+    v: usize,
+)
+    requires { ⌜ Tables bits (now ins) (now strings) (now font) × (k < instructions) ⌝ }
+    ensures { λ _. ⌜ now (line .exit)
+        ≡ each (drawnBy bits (now (ins .entry)) (now (strings .entry)) (now (font .entry)) k v) (now (line .entry)) ⌝ }
+{
+    let parts = parts_of(opcode(ins, k));
+    if parts.boxed {
+        draw_box(line, ins, k, v);
+    }
+    if parts.text {
+        draw_text(line, bits, ins, strings, font, k, v);
     }
 }
 
 // Row v of a layer as colour indexes, one a pixel: index 0, and over it the `count` instructions
-// that stand before the list's end.
-pub fn draw_line(line: &mut [u8], ins: &[u8], strings: &[u8], font: &[u8], count: usize, v: usize)
-    requires { ⌜ Tables (now ins) (now strings) (now font) × (count ≡ countOf (now ins)) ⌝ }
+// that stand before the list's end. The font has so many bits a pixel.
+pub fn draw_line(
+    line: &mut [u8],
+    bits: usize,
+    ins: &[u8],
+    strings: &[u8],
+    font: &[u8],
+    count: usize,
+    v: usize,
+)
+    requires { ⌜ Tables bits (now ins) (now strings) (now font) × (count ≡ countOf (now ins)) ⌝ }
     ensures { λ _. ⌜ now (line .exit)
-        ≡ tab (length (now (line .entry))) (indexAt (now (ins .entry)) (now (strings .entry)) (now (font .entry)) v) ⌝ }
+        ≡ tab (length (now (line .entry))) (indexAt bits (now (ins .entry)) (now (strings .entry)) (now (font .entry)) v) ⌝ }
 {
     fill_run(line, 0, line.len(), 0);
     let mut k = 0;
     while k < count {
-        draw_one(line, ins, strings, font, k, v);
+        draw_one(line, bits, ins, strings, font, k, v);
         k += 1;
     }
 }

@@ -12,6 +12,7 @@ use lib.Seq.{getD-set-same, getD-set-other, getD-append-seam, take-all}
 use Rattle.lists.specs.Steps.{through, keep}
 use Rattle.lists.proofs.Choice.{split}
 use Rattle.lists.proofs.Steps.{through-next, keep-next, length-keep-le, Every, every-keep}
+use Rattle.profiles.specs.Profile.{bitsOf}
 use Rattle.words.specs.Fields.{layerOf}
 use Rattle.words.specs.Order.{orderOf, within, bandLayers}
 use Rattle.words.proofs.OrderLaws.{Enabled, orderOf-enabled, length-orderOf-le}
@@ -27,10 +28,10 @@ plan steps count = record { steps = steps; count = count }
 
 -- ---- one layer more
 
-module _ (w : List ℕ) (frame : ℕ) (tables : List ℕ) where
-  planned-more : (l : List ℕ) (p : Plan) (n : ℕ) (t : Step) → p .count < 8 → Made w frame tables n t
-      → Planned w frame tables l p
-      → Planned w frame tables (l ++ (n ∷ [])) (plan (set (p .steps) (p .count) t) (p .count + 1))
+module _ (bits : ℕ) (w : List ℕ) (frame : ℕ) (tables : List ℕ) where
+  planned-more : (l : List ℕ) (p : Plan) (n : ℕ) (t : Step) → p .count < 8 → Made bits w frame tables n t
+      → Planned bits w frame tables l p
+      → Planned bits w frame tables (l ++ (n ∷ [])) (plan (set (p .steps) (p .count) t) (p .count + 1))
   planned-more l p n t h m q =
       let long : length (l ++ (n ∷ [])) ≡ length l + 1 = length-append l (n ∷ []) in
       record {
@@ -53,11 +54,11 @@ module _ (w : List ℕ) (frame : ℕ) (tables : List ℕ) where
       }
 
   module _ (a b n : ℕ) (p : Plan) where
-    pub grown-taken : (t : Step) → within a b (layerOf w n) ≡ true → p .count < 8 → Made w frame tables n t
-        → Grown w frame tables a b n p (plan (set (p .steps) (p .count) t) (p .count + 1))
+    pub grown-taken : (t : Step) → within a b (layerOf w n) ≡ true → p .count < 8 → Made bits w frame tables n t
+        → Grown bits w frame tables a b n p (plan (set (p .steps) (p .count) t) (p .count + 1))
     grown-taken t e h m = record { grown = λ l q. rw e (planned-more l p n t h m q) }
 
-    pub grown-left : within a b (layerOf w n) ≡ false → Grown w frame tables a b n p p
+    pub grown-left : within a b (layerOf w n) ≡ false → Grown bits w frame tables a b n p p
     grown-left e = record { grown = λ l q. rw (e, append-nil l) q }
 
   -- ---- the loop over the order
@@ -66,22 +67,22 @@ module _ (w : List ℕ) (frame : ℕ) (tables : List ℕ) where
   abbrev pub bandTo : ℕ → ℕ → ℕ → List ℕ
   bandTo a b i = keep (λ n. within a b (layerOf w n)) (take i (orderOf w))
 
-  pub plan-none : (a b : ℕ) (p : Plan) → Empty p → Planned w frame tables (bandTo a b 0) p
+  pub plan-none : (a b : ℕ) (p : Plan) → Empty p → Planned bits w frame tables (bandTo a b 0) p
   unfolding keep
   plan-none a b p e = record { room = e .room; count = e .none; made = λ j h. absurd (not-suc-le-zero h) }
 
   pub plan-next : (a b i n : ℕ) (p r : Plan) → i < length (orderOf w) → n ≡ getD (orderOf w) i 0
-      → Planned w frame tables (bandTo a b i) p
-      → Grown w frame tables a b n p r → Planned w frame tables (bandTo a b (i + 1)) r
+      → Planned bits w frame tables (bandTo a b i) p
+      → Grown bits w frame tables a b n p r → Planned bits w frame tables (bandTo a b (i + 1)) r
   plan-next a b i n p r h e q g =
       rw (keep-next (λ n. within a b (layerOf w n)) (orderOf w) i h, ← e) (g .grown (bandTo a b i) q)
 
-  pub plan-all : (a b i : ℕ) (p : Plan) → length (orderOf w) ≤ i → Planned w frame tables (bandTo a b i) p
-      → Planned w frame tables (bandLayers w a b) p
+  pub plan-all : (a b i : ℕ) (p : Plan) → length (orderOf w) ≤ i → Planned bits w frame tables (bandTo a b i) p
+      → Planned bits w frame tables (bandLayers w a b) p
   unfolding bandLayers
   plan-all a b i p h q = rw (take-all i (orderOf w) h) at q
 
-  pub plan-room : (a b i : ℕ) (p : Plan) → i < length (orderOf w) → Planned w frame tables (bandTo a b i) p
+  pub plan-room : (a b i : ℕ) (p : Plan) → i < length (orderOf w) → Planned bits w frame tables (bandTo a b i) p
       → p .count < 8
   plan-room a b i p h q =
       omega (
@@ -103,9 +104,9 @@ unfolding bandLayers
 length-bandLayers-le w a b =
     omega (arith, length-keep-le (λ n. within a b (layerOf w n)) (orderOf w), length-orderOf-le w)
 
-pub planned-numbered : (w : List ℕ) (frame : ℕ) (tables : List ℕ) (a b : ℕ) (p : Plan)
-    → Planned w frame tables (bandLayers w a b) p → Numbered p
-planned-numbered w frame tables a b p q =
+pub planned-numbered : (bits : ℕ) (w : List ℕ) (frame : ℕ) (tables : List ℕ) (a b : ℕ) (p : Plan)
+    → Planned bits w frame tables (bandLayers w a b) p → Numbered p
+planned-numbered bits w frame tables a b p q =
     record {
       few = omega (arith, q .count, length-bandLayers-le w a b);
       number = λ j h. rw (q .made j (omega (arith, q .count)) .number)
@@ -140,13 +141,13 @@ pub marked-none : (p : Plan) (e : ℕ) → e ≡ markedTo p 0 e
 unfolding markedTo
 marked-none p e = refl
 
-marked-is : (s : Scene) (n : ℕ) (t : Step) (e : ℕ) → Made (s .words) (s .frame) (s .tables) n t
+marked-is : (s : Scene) (n : ℕ) (t : Step) (e : ℕ) → Made (bitsOf (s .profile)) (s .words) (s .frame) (s .tables) n t
     → marked t e ≡ markAt s n e
 unfolding marked markAt missing
 marked-is s n t e m = rw (m .number, m .layer, m .end)
 
 pub marks-is : (s : Scene) (l : List ℕ) (p : Plan) (k e : ℕ) → k ≤ length l
-    → Planned (s .words) (s .frame) (s .tables) l p
+    → Planned (bitsOf (s .profile)) (s .words) (s .frame) (s .tables) l p
     → markedTo p k e ≡ through (markAt s) (take k l) e
 unfolding markedTo through
 marks-is s l p zero e h q = refl

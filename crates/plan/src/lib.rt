@@ -37,6 +37,8 @@ pub struct Step {
     pub left: usize,
     pub wide: usize,
     pub alpha: u8,
+    // How many bits a pixel of a glyph has.
+    pub bits: u8,
     // Where its picture begins.
     pub start: usize,
     // Where its active banks begin, and its list's end.
@@ -70,20 +72,21 @@ fn palette_at(tables: &[u8], at: usize) -> [u32; 16]
 }
 
 // Layer n, whose picture begins at `start`.
-fn step_of(w: &[u32; 52], frame: u32, tables: &[u8], start: usize, n: usize) -> Step
-    requires { ⌜ (n < 8) × (length (now tables) ≡ tablesLen) × (start ≡ pictureStart (now w) n) ⌝ }
-    ensures { λ r. ⌜ Made (now (w .entry)) frame (now (tables .entry)) n r ⌝ }
+fn step_of(bits: usize, w: &[u32; 52], frame: u32, tables: &[u8], start: usize, n: usize) -> Step
+    requires { ⌜ (bits ≤ 2) × (n < 8) × (length (now tables) ≡ tablesLen bits) × (start ≡ pictureStart (now w) n) ⌝ }
+    ensures { λ r. ⌜ Made bits (now (w .entry)) frame (now (tables .entry)) n r ⌝ }
 {
     let layer = layer_of(w, n);
     let width = screen_width(w) as usize;
     let left = least(layer.x as usize, width);
     let wide = least(layer.width as usize, width - left);
     let alpha = fade(layer.value, layer.target, layer.period, layer.start, frame);
+    let glyph_bits = bits as u8;
     let controller = n as u32;
-    let list = active_at(w, controller, LIST);
-    let colours = active_at(w, controller, COLOURS);
-    let strings = active_at(w, controller, STRINGS);
-    let font = active_at(w, controller, FONT);
+    let list = active_at(bits, w, controller, LIST);
+    let colours = active_at(bits, w, controller, COLOURS);
+    let strings = active_at(bits, w, controller, STRINGS);
+    let font = active_at(bits, w, controller, FONT);
     let end = end_at(tables, list);
     let palette = palette_at(tables, colours);
     Step {
@@ -92,6 +95,7 @@ fn step_of(w: &[u32; 52], frame: u32, tables: &[u8], start: usize, n: usize) -> 
         left: left,
         wide: wide,
         alpha: alpha,
+        bits: glyph_bits,
         start: start,
         list: list,
         strings: strings,
@@ -114,6 +118,7 @@ fn is_within(layer: Layer, low: u32, high: u32) -> bool
 // The plan with layer n behind it, if its depth is one of the band's.
 fn with_layer(
     mut plan: Plan,
+    bits: usize,
     w: &[u32; 52],
     frame: u32,
     tables: &[u8],
@@ -122,13 +127,13 @@ fn with_layer(
     low: u32,
     high: u32,
 ) -> Plan
-    requires { ⌜ (n < 8) × (length (now tables) ≡ tablesLen) × (starts ≡ tab 8 (pictureStart (now w)))
+    requires { ⌜ (bits ≤ 2) × (n < 8) × (length (now tables) ≡ tablesLen bits) × (starts ≡ tab 8 (pictureStart (now w)))
         × (plan .count < 8) ⌝ }
-    ensures { λ r. ⌜ Grown (now (w .entry)) frame (now (tables .entry)) low high n plan r ⌝ }
+    ensures { λ r. ⌜ Grown bits (now (w .entry)) frame (now (tables .entry)) low high n plan r ⌝ }
 {
     if is_within(layer_of(w, n), low, high) {
         let at = plan.count;
-        plan.steps[at] = step_of(w, frame, tables, starts[n], n);
+        plan.steps[at] = step_of(bits, w, frame, tables, starts[n], n);
         plan.count = at + 1;
         return plan;
     }
@@ -159,6 +164,7 @@ fn empty() -> Plan
         wide: 0,
         alpha: 0,
         start: 0,
+        bits: 0,
         list: 0,
         strings: 0,
         font: 0,
@@ -175,9 +181,9 @@ fn empty() -> Plan
 }
 
 // The layers of the band, in the order of painting.
-pub fn plan_of(w: &[u32; 52], frame: u32, tables: &[u8], low: u32, high: u32) -> Plan
-    requires { ⌜ length (now tables) ≡ tablesLen ⌝ }
-    ensures { λ r. ⌜ Planned (now (w .entry)) frame (now (tables .entry))
+pub fn plan_of(bits: usize, w: &[u32; 52], frame: u32, tables: &[u8], low: u32, high: u32) -> Plan
+    requires { ⌜ (bits ≤ 2) × (length (now tables) ≡ tablesLen bits) ⌝ }
+    ensures { λ r. ⌜ Planned bits (now (w .entry)) frame (now (tables .entry))
         (bandLayers (now (w .entry)) low high) r ⌝ }
 {
     let order = order_of(w);
@@ -187,7 +193,7 @@ pub fn plan_of(w: &[u32; 52], frame: u32, tables: &[u8], low: u32, high: u32) ->
     let mut plan = empty();
     let mut i: usize = 0;
     while i < count {
-        plan = with_layer(plan, w, frame, tables, starts, layers[i], low, high);
+        plan = with_layer(plan, bits, w, frame, tables, starts, layers[i], low, high);
         i += 1;
     }
     plan

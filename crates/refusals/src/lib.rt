@@ -1,5 +1,6 @@
 // What painting refuses, in document 01's order, by the words and the buffers' lengths.
 ghost use mathlib.Core.Path.{_≡_};
+ghost use Prim.Native.Nat.{_≤_};
 ghost use Rattle.frames.specs.Frame.{bandRefusal, sizeRefusal, outputRefusal, tablesRefusal, picturesRefusal};
 ghost use Rattle.frames.specs.Frame.{fillRefusal, paintRefusal};
 use answers::DONE;
@@ -11,7 +12,7 @@ use answers::TABLES_LENGTH;
 use answers::or_else;
 use mix::PIXEL_LEN;
 use order::pictures_of;
-use tables::TABLES_LEN;
+use tables::tables_len;
 use words::fields::screen_height;
 use words::fields::screen_width;
 
@@ -56,11 +57,12 @@ fn output_refusal(w: &[u32; 52], out: usize) -> u8
     OUTPUT_LENGTH
 }
 
-// 6, of tables so long.
-fn tables_refusal(tables: usize) -> u8
-    ensures { λ r. ⌜ r ≡ tablesRefusal tables ⌝ }
+// 6, of tables so long, where a glyph's pixel has so many bits.
+fn tables_refusal(bits: usize, tables: usize) -> u8
+    requires { ⌜ bits ≤ 2 ⌝ }
+    ensures { λ r. ⌜ r ≡ tablesRefusal bits tables ⌝ }
 {
-    if tables == TABLES_LEN {
+    if tables == tables_len(bits) {
         return DONE;
     }
     TABLES_LENGTH
@@ -83,8 +85,10 @@ pub fn fill_refusal(w: &[u32; 52], out: usize) -> u8
     or_else(size_refusal(w), output_refusal(w, out))
 }
 
-// What a band answers for buffers so long: 0, or the first of 15, 12, 13, 6, 14.
+// What a band answers for buffers so long: 0, or the first of 15, 12, 13, 6, 14. A glyph's pixel has so many
+// bits.
 pub fn paint_refusal(
+    bits: usize,
     w: &[u32; 52],
     low: u32,
     high: u32,
@@ -92,9 +96,10 @@ pub fn paint_refusal(
     tables: usize,
     pictures: usize,
 ) -> u8
-    ensures { λ r. ⌜ r ≡ paintRefusal (now (w .entry)) low high out tables pictures ⌝ }
+    requires { ⌜ bits ≤ 2 ⌝ }
+    ensures { λ r. ⌜ r ≡ paintRefusal bits (now (w .entry)) low high out tables pictures ⌝ }
 {
-    let lent = or_else(tables_refusal(tables), pictures_refusal(w, pictures));
+    let lent = or_else(tables_refusal(bits, tables), pictures_refusal(w, pictures));
     let sized = or_else(size_refusal(w), or_else(output_refusal(w, out), lent));
     or_else(band_refusal(low, high), sized)
 }

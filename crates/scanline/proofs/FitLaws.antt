@@ -9,6 +9,8 @@ use native.Mathlib.Omega.{arith}
 use lib.ListN.{length, getD}
 use Rattle.lists.proofs.Sum.{sum-room}
 use Rattle.lists.proofs.Digits.{row-room}
+use Rattle.profiles.specs.Profile.{bitsOf}
+use Rattle.profiles.proofs.ProfileLaws.{bits-some, bits-few}
 use Rattle.words.specs.Fields.{widthOf, layerOf}
 use Rattle.words.specs.Order.{bandLayers}
 use Rattle.words.specs.Pictures.{pictureLen, pictureLenAt, pictureStart, picturesLen}
@@ -26,10 +28,13 @@ module _ (s : Scene) (lent : Lent s) (t : Step) (number : t .number < 8) (m : Of
   layer-banked : Banked (s .tables) t
   unfolding kindLen
   layer-banked =
+      let bits = bitsOf (s .profile) in
       record {
-        list = omega (arith, lent .tables, m .list, active-room (s .words) listKind (t .number) number);
-        strings = omega (arith, lent .tables, m .strings, active-room (s .words) stringsKind (t .number) number);
-        font = omega (arith, lent .tables, m .font, active-room (s .words) fontKind (t .number) number);
+        some = rw (m .glyph) (bits-some (s .profile));
+        few = rw (m .glyph) (bits-few (s .profile));
+        list = omega (arith, lent .tables, m .list, active-room bits (s .words) listKind (t .number) number);
+        strings = omega (arith, lent .tables, m .strings, active-room bits (s .words) stringsKind (t .number) number);
+        font = rw (m .glyph) (omega (arith, lent .tables, m .font, active-room bits (s .words) fontKind (t .number) number));
         count = rw (list-is s t m) (ap (λ (e : ListEnd). e .count) (m .end));
       }
 
@@ -52,7 +57,7 @@ pub band-ready : (s : Scene) (a b : ℕ) (p : Plan) → Lent s → OfLayers s (b
     → AllFit (s .tables) (s .pictures) (4 * widthOf (s .words)) p
 band-ready s a b p lent q =
     record {
-      few = planned-numbered _ _ _ a b p q .few;
+      few = planned-numbered _ _ _ _ a b p q .few;
       fit = λ j h.
           let lt : j < length (bandLayers (s .words) a b) = omega (arith, q .count) in
           let e = q .made j lt .number in

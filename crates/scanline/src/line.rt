@@ -12,9 +12,9 @@ use mix::PIXEL_LEN;
 use pen::draw_line;
 use plan::Plan;
 use plan::Step;
-use tables::FONT_LEN;
 use tables::LIST_LEN;
 use tables::STRINGS_LEN;
+use tables::font_len;
 
 // One run over another: at the layer's alpha, or each pixel at its own.
 fn over(out: &mut [u8], run: &[u8], global: bool, alpha: u8)
@@ -62,11 +62,14 @@ fn draw_row(indexes: &mut [u8], row: &mut [u8], tables: &[u8], step: Step, v: us
     let list = step.list;
     let strings = step.strings;
     let font = step.font;
+    let bits = step.bits as usize;
+    let font_end = font + font_len(bits);
     draw_line(
         indexes,
+        bits,
         &tables[list..list + LIST_LEN],
         &tables[strings..strings + STRINGS_LEN],
-        &tables[font..font + FONT_LEN],
+        &tables[font..font_end],
         step.end.count,
         v,
     );

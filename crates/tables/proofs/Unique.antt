@@ -1,6 +1,8 @@
 -- No two outcomes meet a function's promise. `Post` is the function's own `ensures`, as the check reads it
 -- in `src/`: of the arguments i, the answer a or b, and the arguments at exit, e or f. Assumes nothing.
 use mathlib.Core.Path.{_≡_, sym, _∙_}
+use Rattle.tables.proofs.font_len.Reads as font_len
+use Rattle.tables.proofs.tables_len.Reads as tables_len
 use Rattle.tables.proofs.controller_of.Reads as controller_of
 use Rattle.tables.proofs.kind_of.Reads as kind_of
 use Rattle.tables.proofs.bank_of.Reads as bank_of
@@ -8,6 +10,12 @@ use Rattle.tables.proofs.end_of.Reads as end_of
 use Rattle.tables.proofs.first_byte_of.Reads as first_byte_of
 use Rattle.tables.proofs.is_named.Reads as is_named
 use Rattle.tables.proofs.active_at.Reads as active_at
+
+pub font-len-unique : (κs i a b e f : _) → font_len.Post κs i a e → font_len.Post κs i b f → a ≡ b
+font-len-unique κs i a b e f p q = p ∙ sym q
+
+pub tables-len-unique : (κs i a b e f : _) → tables_len.Post κs i a e → tables_len.Post κs i b f → a ≡ b
+tables-len-unique κs i a b e f p q = p ∙ sym q
 
 pub controller-of-unique : (κs i a b e f : _) → controller_of.Post κs i a e → controller_of.Post κs i b f → a ≡ b
 controller-of-unique κs i a b e f p q = p ∙ sym q

@@ -1,23 +1,12 @@
--- Where everything stands in the lent table buffer: 01 "Tables". Every number of it stands here
--- once. Assumes nothing.
+-- Where everything stands in the lent table buffer: 01 "Tables", and 02 K2 with two bits a glyph pixel. Every
+-- number of it stands here once, over the number of those bits. Assumes nothing.
 use Prim.Native.Nat.{ℕ, _+_, _*_}
 use mathlib.Core.List.{[], _∷_}
 use lib.ListN.{getD}
 
--- 01 "Tables": "The lent table buffer has 29,696 bytes: controller g (which serves layer g) at
--- 3,712·g, bank b at +1,856·b"
-abbrev pub tablesLen : ℕ
-tablesLen = 29696
+-- ---- what a bank holds
 
--- the bytes of a controller's two banks
-abbrev pub controllerLen : ℕ
-controllerLen = 3712
-
--- the bytes of a bank
-abbrev pub bankLen : ℕ
-bankLen = 1856
-
--- "in it instructions at 0 (48 of 16 bytes), colours at 768 (16 of 4), strings at 832 (8 of 32), font
+-- 01 "Tables": "in it instructions at 0 (48 of 16 bytes), colours at 768 (16 of 4), strings at 832 (8 of 32), font
 -- at 1,088 (96 glyphs of 8 bytes). These counts are 000's sample configuration.": how many instructions
 abbrev pub instructions : ℕ
 instructions = 48
@@ -46,9 +35,13 @@ stringLen = 32
 abbrev pub glyphs : ℕ
 glyphs = 96
 
--- the bytes of one
-abbrev pub glyphLen : ℕ
-glyphLen = 8
+-- the lines of one
+abbrev pub glyphRows : ℕ
+glyphRows = 8
+
+-- the bytes of one: a line of eight pixels is a byte, and 02 K2: "A glyph line is two bytes" with two bits each
+abbrev pub glyphLen : ℕ → ℕ
+glyphLen bits = glyphRows * bits
 
 -- ---- the four kinds of a bank
 
@@ -80,18 +73,36 @@ coloursLen = colours * colourLen
 abbrev pub stringsLen : ℕ
 stringsLen = strings * stringLen
 
--- the bytes of a font
-abbrev pub fontLen : ℕ
-fontLen = glyphs * glyphLen
+-- the bytes of a font; 02 K2: "A font bank grows to 1,536 bytes"
+abbrev pub fontLen : ℕ → ℕ
+fontLen bits = glyphs * glyphLen bits
 
--- where a kind begins in its bank
+-- where the font begins in its bank
+abbrev pub fontAt : ℕ
+fontAt = 1088
+
+-- where a kind does
 unfoldable pub kindAt : ℕ → ℕ
-kindAt kind = getD (0 ∷ 768 ∷ 832 ∷ 1088 ∷ []) kind 0
+kindAt kind = getD (0 ∷ 768 ∷ 832 ∷ fontAt ∷ []) kind 0
 
 -- the bytes of a kind
-unfoldable pub kindLen : ℕ → ℕ
-kindLen kind = getD (listLen ∷ coloursLen ∷ stringsLen ∷ fontLen ∷ []) kind 0
+unfoldable pub kindLen : ℕ → ℕ → ℕ
+kindLen bits kind = getD (listLen ∷ coloursLen ∷ stringsLen ∷ fontLen bits ∷ []) kind 0
 
--- where a kind of bank b of controller g begins
-abbrev pub bankAt : ℕ → ℕ → ℕ → ℕ
-bankAt g b kind = controllerLen * g + bankLen * b + kindAt kind
+-- ---- the buffer
+
+-- the bytes of a bank, which the font ends: 1,856; "a bank to 2,624"
+unfoldable pub bankLen : ℕ → ℕ
+bankLen bits = fontAt + fontLen bits
+
+-- the bytes of a controller's two banks: 3,712, or 5,248
+abbrev pub controllerLen : ℕ → ℕ
+controllerLen bits = 2 * bankLen bits
+
+-- "The lent table buffer has 29,696 bytes", those of eight controllers; "the tables to 41,984"
+unfoldable pub tablesLen : ℕ → ℕ
+tablesLen bits = 8 * controllerLen bits
+
+-- "controller g (which serves layer g) at 3,712·g, bank b at +1,856·b": where a kind of it begins
+abbrev pub bankAt : ℕ → ℕ → ℕ → ℕ → ℕ
+bankAt bits g b kind = controllerLen bits * g + bankLen bits * b + kindAt kind

@@ -1,4 +1,4 @@
--- What a selection selects, and the active banks: 01 "Tables". Assumes nothing.
+-- What a selection selects, and the active banks: 01 "Tables", over the bits a glyph pixel has. Assumes nothing.
 use Prim.Native.Nat.{ℕ, _/_, _%_}
 use mathlib.Core.Bool.{Bool}
 use mathlib.Core.List.{List}
@@ -19,17 +19,17 @@ abbrev pub bankOf : ℕ → ℕ
 bankOf selection = selection % 2
 
 -- 01 "Answers by number", 5: "the kind's end"
-abbrev pub endOf : ℕ → ℕ
-endOf selection = kindLen (kindOf selection)
+abbrev pub endOf : ℕ → ℕ → ℕ
+endOf bits selection = kindLen bits (kindOf selection)
 
 -- where in the buffer the first byte of the selected table stands
-abbrev pub firstByteOf : ℕ → ℕ
-firstByteOf selection = bankAt (controllerOf selection) (bankOf selection) (kindOf selection)
+abbrev pub firstByteOf : ℕ → ℕ → ℕ
+firstByteOf bits selection = bankAt bits (controllerOf selection) (bankOf selection) (kindOf selection)
 
 -- 01 "Answers by number", 4: "the active word 3 names the selected bank"
 abbrev pub namedBy : List ℕ → ℕ → Bool
 namedBy w selection = eqb (activeBankOf w (controllerOf selection) (kindOf selection)) (bankOf selection)
 
 -- where the bank begins that word 3 names
-abbrev pub activeAt : List ℕ → ℕ → ℕ → ℕ
-activeAt w g kind = bankAt g (activeBankOf w g kind) kind
+abbrev pub activeAt : ℕ → List ℕ → ℕ → ℕ → ℕ
+activeAt bits w g kind = bankAt bits g (activeBankOf w g kind) kind

@@ -1,5 +1,5 @@
--- The lowest run of bits in a row of a glyph, as `draw_cell` takes it off. What each of the 255
--- rows that have a bit gives is computed. Assumes nothing.
+-- The lowest run of bits in a mask, as `draw_mask` takes it off. What each of the 255 masks that have a bit
+-- gives is computed. Assumes nothing.
 use mathlib.Core.Path.{_≡_, refl}
 use mathlib.Core.Bool.{Bool, true}
 use mathlib.Core.Logic.{⊎-elim}
@@ -17,11 +17,11 @@ use Rattle.draw.specs.Engine.Rows.{runAfter}
 
 -- ---- a test that passes at each number below n
 
-every : ℕ → (ℕ → Bool) → Bool
+unfoldable pub every : ℕ → (ℕ → Bool) → Bool
 every zero f = true
 every (suc n) f = both (f n) (every n f)
 
-every-at : (n : ℕ) (f : ℕ → Bool) → every n f ≡ true → (i : ℕ) → i < n → f i ≡ true
+pub every-at : (n : ℕ) (f : ℕ → Bool) → every n f ≡ true → (i : ℕ) → i < n → f i ≡ true
 unfolding every
 every-at zero f e i h = absurd (not-suc-le-zero h)
 every-at (suc n) f e i h = ⊎-elim
@@ -47,7 +47,7 @@ runTo bits = glyphColumns - trailingZeros 64 bits
 
 -- whether column j is 1 in the run, and beside it as in the bits that are left
 isOver : ℕ → ℕ → Bool
-isOver bits j = eqb (pixelOf bits j) (runAfter (runFrom bits) (runTo bits) 1 j (pixelOf (beside bits) j))
+isOver bits j = eqb (pixelOf 1 bits j) (runAfter (runFrom bits) (runTo bits) 1 j (pixelOf 1 (beside bits) j))
 
 module _ (bits : ℕ) (some : bits ≡ 0 → ⊥) (byte : bits < 256) where
   each-row : (f : ℕ → Bool) → every 255 (λ i. f (i + 1)) ≡ true → f bits ≡ true
@@ -71,7 +71,7 @@ module _ (bits : ℕ) (some : bits ≡ 0 → ⊥) (byte : bits < 256) where
   zeros-carried-le = leb-true _ _ (each-row (λ b. leb (trailingZeros 64 (carried b)) glyphColumns) refl)
 
   pub pixelOf-run : (j : ℕ) → j < glyphColumns
-      → pixelOf bits j ≡ runAfter (runFrom bits) (runTo bits) 1 j (pixelOf (beside bits) j)
+      → pixelOf 1 bits j ≡ runAfter (runFrom bits) (runTo bits) 1 j (pixelOf 1 (beside bits) j)
   unfolding every isOver trailingZeros pixelOf runAfter
   pixelOf-run j h =
       eqb-true _ _ (every-at glyphColumns (isOver bits) (each-row (λ b. every glyphColumns (isOver b)) refl) j h)

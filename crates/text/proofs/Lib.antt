@@ -1,4 +1,5 @@
 -- The laws that the proofs here rest on. Assumes nothing.
 mod BitLaws
+mod ValueLaws
 mod TextLaws
 mod LineLaws

@@ -1,4 +1,5 @@
-//! 01 "Answers by number", row for row, and the one number that the calls from C have beside them.
+//! 01 "Answers by number", row for row, the number that 02 adds, and the one that the calls from C
+//! have beside them.
 
 /// "done"
 pub const DONE: u32 = 0;
@@ -12,7 +13,8 @@ pub const NOTHING_SELECTED: u32 = 3;
 pub const BANK_ACTIVE: u32 = 4;
 /// "put: place is at the kind's end"
 pub const BANK_FULL: u32 = 5;
-/// "put, paint: tables not 29,696 bytes"
+/// "put, paint: tables not 29,696 bytes"; 02 K2: "6 compares with the chosen length, in the host
+/// entry with both"
 pub const WRONG_TABLES: u32 = 6;
 /// "start: a reserved bit is set in any pending word"
 pub const RESERVED_BIT: u32 = 7;
@@ -34,5 +36,7 @@ pub const WRONG_PICTURES: u32 = 14;
 pub const WRONG_BAND: u32 = 15;
 /// "host entry: register image not 208 bytes"
 pub const WRONG_IMAGE: u32 = 16;
-/// A call from C whose state is not 436 bytes.
+/// 02 K2: "17 for a bit number other than 1 or 2 when making a state"
+pub const WRONG_BITS: u32 = 17;
+/// A call from C whose state is not 440 bytes.
 pub const WRONG_STATE: u32 = 23;

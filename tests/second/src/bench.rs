@@ -4,7 +4,7 @@
 use crate::display::Display;
 use crate::fade::Fade;
 use crate::paint::blend;
-use crate::tables::{Bank, Kind, TABLES_LEN};
+use crate::tables::{Bank, Bits, Kind};
 
 /// Two numbers at 11:0 and 27:16.
 fn pair(low: u32, high: u32) -> u32 {
@@ -13,7 +13,7 @@ fn pair(low: u32, high: u32) -> u32 {
 
 /// A screen of that size, with its display on.
 fn screen(width: u32, height: u32) -> Display {
-    let mut display = Display::new();
+    let mut display = Display::fresh(Bits::One);
     display.write(0, 0b101);
     display.write(1, pair(width, height));
     display
@@ -22,7 +22,7 @@ fn screen(width: u32, height: u32) -> Display {
 /// Channel 0 at (u, v) of a layer of 8 by 4 pixels with "Box 2..5 by 1..3" of that weight, drawn in
 /// colour 7, whose channel 0 is 7.
 fn box_at(weight: u32, u: usize, v: usize) -> u32 {
-    let mut tables = [0; TABLES_LEN];
+    let mut tables = [0; Bits::One.tables_len()];
     let mut out = [0; 4 * 8 * 4];
     let mut display = screen(8, 4);
     let list = [10 << 28 | 5 << 12 | 2, 0, weight << 24 | 3 << 12 | 1, 7];
@@ -57,7 +57,7 @@ fn paint_with(length: usize) -> u32 {
         display.write(register, value);
     }
     display.start();
-    display.paint(0, 8, &[0; TABLES_LEN], &vec![0; length], &mut [0; 64])
+    display.paint(0, 8, &[0; Bits::One.tables_len()], &vec![0; length], &mut [0; 64])
 }
 
 /// A name and a number.
@@ -105,7 +105,7 @@ fn calls() -> Vec<Figure> {
     for length in [28, 27, 29] {
         figures.push((format!("{length} picture bytes"), paint_with(length)));
     }
-    let mut display = Display::new();
+    let mut display = Display::fresh(Bits::One);
     for (name, bits) in [("error word", 0x11), ("toggled by 16", 0x10), ("and again", 0x10)] {
         display.toggle(bits);
         figures.push((name.into(), display.errors()));

@@ -101,6 +101,17 @@ pub fn run(program: &Path, words: &[&str], input: &[u8]) -> Vec<u8> {
     printed
 }
 
+/// A picture of the examples, as a PNM.
+pub fn picture(name: &str) -> Vec<u8> {
+    let path = Path::new(env!("CARGO_MANIFEST_DIR")).join("../../examples").join(name);
+    let shown = Command::new("pngtopnm")
+        .arg(&path)
+        .output()
+        .unwrap_or_else(|error| panic!("pngtopnm (of netpbm) does not run: {error}"));
+    assert!(shown.status.success(), "{} is not read", path.display());
+    shown.stdout
+}
+
 /// What the figures program prints for a script; what it is run by takes its name.
 pub fn figures(script: &[u8]) -> Vec<u8> {
     run(&program("SPOONWING_FIGURES", "../../tools/run"), &["figures"], script)

@@ -1,18 +1,20 @@
 //! 01 "What the display is made of", "Registers", "Tables" and "Answers by number": the state and
-//! its calls, and 02 K1: runs of two of them. Every call answers its number.
+//! its calls; 02 K1: runs of two of them, K2: its bits. Every call answers its number.
 
 use crate::answers::*;
 use crate::paint;
-use crate::tables::{Bank, TABLES_LEN};
+use crate::tables::{Bank, Bits, Tables};
 use crate::words::{Words, WORDS};
 
 /// "A write is five bytes", in a run.
 pub const ITEM_LEN: usize = 5;
 
 /// "The state holds pending registers, active registers, frame number (32 bits), error word (32
-/// bits), and a table selection with its place."
+/// bits), and a table selection with its place." And "The number of bits is chosen when a state is
+/// made".
 #[derive(Clone, Debug, PartialEq, Eq)]
 pub struct Display {
+    pub(crate) bits: Bits,
     pub(crate) pending: Words,
     pub(crate) active: Words,
     pub(crate) frame: u32,
@@ -28,22 +30,30 @@ pub(crate) struct Selected {
     pub place: u32,
 }
 
-impl Default for Display {
-    fn default() -> Display {
-        Display::new()
-    }
-}
-
 impl Display {
+    /// "17 for a bit number other than 1 or 2 when making a state, handing back a fresh one-bit
+    /// state"
+    pub fn new(bits: u32) -> (u32, Display) {
+        match Bits::of_number(bits) {
+            Some(bits) => (DONE, Display::fresh(bits)),
+            None => (WRONG_BITS, Display::fresh(Bits::One)),
+        }
+    }
+
     /// "A fresh state has all numbers 0 and nothing selected."
-    pub fn new() -> Display {
+    pub fn fresh(bits: Bits) -> Display {
         Display {
+            bits,
             pending: Words::fresh(),
             active: Words::fresh(),
             frame: 0,
             errors: 0,
             selected: Selected { is_any: false, selection: 0, place: 0 },
         }
+    }
+
+    pub fn bits(&self) -> Bits {
+        self.bits
     }
 
     pub fn errors(&self) -> u32 {
@@ -70,6 +80,11 @@ impl Display {
     /// The active words, which say what the generators have to lend.
     pub fn active(&self) -> &Words {
         &self.active
+    }
+
+    /// Lent tables, read by its number of bits.
+    pub fn tables<'a>(&self, bytes: &'a [u8]) -> Tables<'a> {
+        Tables { bits: self.bits, bytes }
     }
 
     /// "A write changes the pending word."
@@ -115,7 +130,7 @@ impl Display {
     /// "Order: put 6, 3, 4, 5." and "Each put stores one byte and moves the place by one." A place
     /// past the kind's end, which only a state that comes as bytes can have, counts as at it.
     pub fn put(&mut self, tables: &mut [u8], byte: u8) -> u32 {
-        if tables.len() != TABLES_LEN {
+        if !self.tables(tables).are_whole() {
             return WRONG_TABLES;
         }
         let Selected { is_any, selection, place } = &mut self.selected;
@@ -126,12 +141,12 @@ impl Display {
         if self.active.bank(bank.kind, bank.g) == bank.b {
             return BANK_ACTIVE;
         }
-        if *place as usize >= bank.kind.end() {
+        if *place as usize >= bank.kind.end(self.bits) {
             // "error bit 4g+1 set, else unchanged"
             self.errors |= 1 << (4 * bank.g + 1);
             return BANK_FULL;
         }
-        tables[bank.start() + *place as usize] = byte;
+        tables[bank.start(self.bits) + *place as usize] = byte;
         *place += 1;
         DONE
     }
@@ -175,7 +190,7 @@ impl Display {
         if self.active.output_len() == 0 {
             return NOTHING_ACTIVE;
         }
-        paint::buffer_refusal(&self.active, tables, pictures, out)
+        paint::buffer_refusal(&self.active, self.tables(tables), pictures, out)
     }
 
     /// "Painting the band a..b (depths from a up to but not b) blends the enabled layers of those
@@ -190,6 +205,7 @@ impl Display {
     ) -> u32 {
         let answer = self.paint_refusal(low, high, tables, pictures, out);
         if answer == DONE {
+            let tables = self.tables(tables);
             self.errors |= paint::band(&self.active, self.frame, low, high, tables, pictures, out);
         }
         answer
@@ -200,6 +216,7 @@ impl Display {
         let answer = self.paint_refusal(0, 8, tables, pictures, out);
         if answer == DONE {
             paint::fill(&self.active, out);
+            let tables = self.tables(tables);
             self.errors |= paint::band(&self.active, self.frame, 0, 8, tables, pictures, out);
         }
         answer

@@ -1,7 +1,7 @@
 //! The fifteen calls of the display from C, each on lent bytes, and rows of such calls: what the
 //! owner of the buffers stores in them, what is lent to each call, and what a call tells.
 
-use crate::answers::{DONE, WRONG_STATE};
+use crate::answers::WRONG_STATE;
 use crate::display::Display;
 use crate::state::{read_state, state_bytes};
 
@@ -93,9 +93,10 @@ pub struct LentBytes<'a> {
     pub count: &'a mut [u8],
 }
 
-/// One call, with its one or two numbers: register and value, selection, bits, byte, or the ends of
-/// a band. "A state of another length: answer 23, everything unchanged; the reads give 0 then." A
-/// count is written by every call that is lent its place, with 23 as 0.
+/// One call, with its one or two numbers: bits a glyph pixel, register and value, selection, bits
+/// to toggle, byte, or the ends of a band. "A state of another length: answer 23, everything
+/// unchanged; the reads give 0 then." A count is written by every call that is lent its place, with
+/// 23 as 0.
 pub fn call(door: Door, a: u32, b: u32, lent: LentBytes) -> u32 {
     let LentBytes { state, tables, pictures, out, run, count } = lent;
     let Some(mut display) = read_state(state) else {
@@ -104,8 +105,9 @@ pub fn call(door: Door, a: u32, b: u32, lent: LentBytes) -> u32 {
     };
     let answer = match door {
         Door::New => {
-            display = Display::new();
-            DONE
+            let (answer, fresh) = Display::new(a);
+            display = fresh;
+            answer
         }
         Door::Write => display.write(a, b),
         Door::Select => display.select(a),

@@ -1,8 +1,40 @@
-//! 01 "Graphics layers": the colour index that a controller's instruction list gives one pixel of
-//! its layer. Colours and blending are not here.
+//! 01 "Graphics layers", and 02 K2 for text: the colour index that a controller's instruction list
+//! gives one pixel of its layer. Colours and blending are not here.
 
-use crate::tables::{INSTRUCTION_LEN, STRINGS, STRING_LEN};
-use crate::words::field;
+use crate::tables::{Bits, Kind, Tables, COLOURS, INSTRUCTION_LEN, STRINGS, STRING_LEN};
+use crate::words::{field, Words};
+
+/// A controller's strings and glyphs.
+#[derive(Clone, Copy)]
+pub struct Letters<'a> {
+    pub strings: &'a [u8],
+    pub font: &'a [u8],
+    pub bits: Bits,
+}
+
+impl<'a> Letters<'a> {
+    /// Those of the banks that word 3 names for a controller.
+    pub fn active(words: &Words, g: usize, tables: Tables<'a>) -> Letters<'a> {
+        Letters {
+            strings: tables.active(words, Kind::Text, g),
+            font: tables.active(words, Kind::Font, g),
+            bits: tables.bits,
+        }
+    }
+
+    /// "Glyph c−32 serves characters 32 to 127; others leave their cell. The top bit is leftmost";
+    /// with two bits "A glyph line is two bytes, leftmost pixel in the top two bits of the first."
+    fn glyph_value(&self, c: u8, column: usize, line: usize) -> Option<usize> {
+        if !(32..=127).contains(&c) {
+            return None;
+        }
+        let bits = self.bits;
+        let start = bits.glyph_len() * usize::from(c - 32) + bits.line_len() * line;
+        let bytes = &self.font[start..start + bits.line_len()];
+        let line = bytes.iter().fold(0, |line, &byte| line << 8 | usize::from(byte));
+        Some(line >> (bits.number() * (7 - column)) & ((1 << bits.number()) - 1))
+    }
+}
 
 #[derive(Clone, Debug)]
 pub struct Instruction {
@@ -12,10 +44,10 @@ pub struct Instruction {
     y_start: i64,
     y_end: i64,
     string: usize,
-    scale: i64,
+    pub scale: i64,
     weight: i64,
     box_colour: usize,
-    text_colour: usize,
+    pub text_colour: usize,
 }
 
 impl Instruction {
@@ -33,15 +65,24 @@ impl Instruction {
             weight: i64::from(field(word(2), 27, 24)),
             y_end: i64::from(field(word(2), 23, 12)),
             y_start: i64::from(field(word(2), 11, 0)),
-            box_colour: field(word(3), 7, 0) as usize % 16,
-            text_colour: field(word(3), 15, 8) as usize % 16,
+            box_colour: field(word(3), 7, 0) as usize % COLOURS,
+            text_colour: field(word(3), 15, 8) as usize % COLOURS,
         }
+    }
+
+    /// "10 is a box, 12 text, 14 a box and then text over it. All others do nothing".
+    pub fn has_box(&self) -> bool {
+        [10, 14].contains(&self.opcode)
+    }
+
+    pub fn has_text(&self) -> bool {
+        [12, 14].contains(&self.opcode)
     }
 
     /// "A box has its ends included; start past end draws nothing. Weight 0 fills. Weight k draws
     /// pixels of the box less than k from one of its four sides, so an edge pixel is at distance
     /// 0."
-    fn box_draws(&self, u: i64, v: i64) -> bool {
+    pub fn box_draws(&self, u: i64, v: i64) -> bool {
         if u < self.x_start || u > self.x_end || v < self.y_start || v > self.y_end {
             return false;
         }
@@ -49,33 +90,27 @@ impl Instruction {
         self.weight == 0 || distances.iter().any(|&distance| distance < self.weight)
     }
 
-    /// "Text starts at x start, y start and stops at the string's first zero byte or after 32
-    /// characters (000: characters after the NULL are not shown). A string number above 7 draws
-    /// nothing. Character i fills a cell 8·scale wide and high. Glyph c−32 serves characters 32 to
-    /// 127; others leave their cell. The top bit is leftmost; a 1 gives the text colour, a 0 leaves
-    /// the pixel."
-    fn text_draws(&self, strings: &[u8], font: &[u8], u: i64, v: i64) -> bool {
+    /// The value of the pixel of a glyph that lies over (u, v), if one does: "Text starts at x
+    /// start, y start and stops at the string's first zero byte or after 32 characters (000:
+    /// characters after the NULL are not shown). A string number above 7 draws nothing. Character i
+    /// fills a cell 8·scale wide and high."
+    pub fn text_value(&self, letters: &Letters, u: i64, v: i64) -> Option<usize> {
         let cell = 8 * self.scale;
         let right = u - self.x_start;
         let down = v - self.y_start;
         if self.string >= STRINGS || right < 0 || down < 0 || down >= cell {
-            return false;
+            return None;
         }
         let i = (right / cell) as usize;
         if i >= STRING_LEN {
-            return false;
+            return None;
         }
-        let string = &strings[STRING_LEN * self.string..STRING_LEN * (self.string + 1)];
+        let string = &letters.strings[STRING_LEN * self.string..STRING_LEN * (self.string + 1)];
         if string[..=i].contains(&0) {
-            return false;
+            return None;
         }
-        let c = string[i];
-        if !(32..=127).contains(&c) {
-            return false;
-        }
-        let glyph_row = font[8 * usize::from(c - 32) + (down / self.scale) as usize];
-        let column = right % cell / self.scale;
-        glyph_row >> (7 - column) & 1 == 1
+        let (column, line) = (right % cell / self.scale, down / self.scale);
+        letters.glyph_value(string[i], column as usize, line as usize)
     }
 }
 
@@ -99,18 +134,19 @@ impl List {
         List { instructions, ended: false }
     }
 
-    /// "Every pixel begins with colour index 0." and "later ones overwrite"; "10 is a box, 12 text,
-    /// 14 a box and then text over it. All others do nothing".
-    pub fn index_at(&self, strings: &[u8], font: &[u8], u: i64, v: i64) -> usize {
+    /// "Every pixel begins with colour index 0." and "later ones overwrite"; "0 leaves the pixel, 1
+    /// to 3 give text colour plus value minus one, modulo 16."
+    pub fn index_at(&self, letters: &Letters, u: i64, v: i64) -> usize {
         let mut index = 0;
         for instruction in &self.instructions {
-            let has_box = instruction.opcode == 10 || instruction.opcode == 14;
-            let has_text = instruction.opcode == 12 || instruction.opcode == 14;
-            if has_box && instruction.box_draws(u, v) {
+            if instruction.has_box() && instruction.box_draws(u, v) {
                 index = instruction.box_colour;
             }
-            if has_text && instruction.text_draws(strings, font, u, v) {
-                index = instruction.text_colour;
+            if !instruction.has_text() {
+                continue;
+            }
+            if let Some(value @ 1..) = instruction.text_value(letters, u, v) {
+                index = (instruction.text_colour + value - 1) % COLOURS;
             }
         }
         index

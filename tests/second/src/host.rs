@@ -1,8 +1,9 @@
 //! 01 "Sheet program and host entry", its last paragraph: a whole frame from a register image,
-//! without a state.
+//! without a state. 02 K2: it "goes by the table length".
 
 use crate::answers::*;
 use crate::paint;
+use crate::tables::Tables;
 use crate::words::{Words, WORDS};
 
 /// "a 208-byte register image (52 little-endian words)"
@@ -28,6 +29,7 @@ pub fn host_frame(image: &[u8], frame: u32, tables: &[u8], pictures: &[u8], out:
     if answer != DONE {
         return answer;
     }
+    let tables = Tables::by_length(tables);
     let answer = paint::buffer_refusal(&words, tables, pictures, out);
     if answer == DONE {
         paint::fill(&words, out);

@@ -2,8 +2,8 @@
 //! screen, also in words that no start lets in. The state and most refusals are in `display`.
 
 use crate::answers::*;
-use crate::draw::List;
-use crate::tables::{active_bytes, Kind, TABLES_LEN};
+use crate::draw::{Letters, List};
+use crate::tables::{Kind, Tables};
 use crate::words::{Words, LAYERS};
 
 /// "Blend of one channel over what is under it (house): (a·over + (255−a)·under + 127) divided by
@@ -13,10 +13,10 @@ pub fn blend(a: u32, over: u32, under: u32) -> u32 {
 }
 
 /// The end of paint's order and of the host entry's: "13, 6, 14".
-pub fn buffer_refusal(words: &Words, tables: &[u8], pictures: &[u8], out: &[u8]) -> u32 {
+pub fn buffer_refusal(words: &Words, tables: Tables, pictures: &[u8], out: &[u8]) -> u32 {
     if out.len() as i64 != words.output_len() {
         WRONG_OUTPUT
-    } else if tables.len() != TABLES_LEN {
+    } else if !tables.are_whole() {
         WRONG_TABLES
     } else if pictures.len() as i64 != words.pictures_len() {
         WRONG_PICTURES
@@ -41,7 +41,7 @@ pub fn band(
     frame: u32,
     low: u32,
     high: u32,
-    tables: &[u8],
+    tables: Tables,
     pictures: &[u8],
     out: &mut [u8],
 ) -> u32 {
@@ -87,16 +87,15 @@ impl Shown {
 /// What an enabled layer shows at each of its pixels that lies on the screen. A frame layer's
 /// picture is "in raster order"; for a graphics layer "the colour table gives channel 0, 1, 2,
 /// alpha for an index (000)". "u, v count from the layer's corner".
-pub fn shown(words: &Words, n: usize, frame: u32, tables: &[u8], pictures: &[u8]) -> Vec<Shown> {
+pub fn shown(words: &Words, n: usize, frame: u32, tables: Tables, pictures: &[u8]) -> Vec<Shown> {
     let layer = words.layer(n);
-    let list = List::read(active_bytes(words, Kind::Instruction, n, tables));
-    let colours = active_bytes(words, Kind::Colour, n, tables);
-    let strings = active_bytes(words, Kind::Text, n, tables);
-    let font = active_bytes(words, Kind::Font, n, tables);
+    let list = List::read(tables.active(words, Kind::Instruction, n));
+    let colours = tables.active(words, Kind::Colour, n);
+    let letters = Letters::active(words, n, tables);
     let picture = words.picture_start(n);
     let over = |u: i64, v: i64| {
         if layer.graphics {
-            let at = 4 * list.index_at(strings, font, u, v);
+            let at = 4 * list.index_at(&letters, u, v);
             &colours[at..at + 4]
         } else {
             let at = (picture + 4 * (layer.width * v + u)) as usize;
@@ -118,7 +117,7 @@ pub fn shown(words: &Words, n: usize, frame: u32, tables: &[u8], pictures: &[u8]
 }
 
 /// "No END means that painting the layer sets error bit 4n (000)."
-fn missing_end(words: &Words, n: usize, tables: &[u8]) -> u32 {
-    let ended = List::read(active_bytes(words, Kind::Instruction, n, tables)).ended;
+fn missing_end(words: &Words, n: usize, tables: Tables) -> u32 {
+    let ended = List::read(tables.active(words, Kind::Instruction, n)).ended;
     u32::from(words.layer(n).graphics && !ended) << (4 * n)
 }

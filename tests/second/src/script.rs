@@ -5,9 +5,9 @@ use crate::answers::DONE;
 use crate::bench::print_bench;
 use crate::display::Display;
 use crate::sums::{blends, checksum, fades};
-use crate::tables::TABLES_LEN;
+use crate::tables::Bits;
 
-/// A fresh display, buffers of zeros, whole tables lent and nothing else.
+/// A fresh display of a bits a glyph pixel, buffers of zeros, whole tables lent and nothing else.
 pub const NEW: u8 = b'N';
 /// Of buffer a (0 tables, 1 pictures, else the output) b bytes are lent from now on.
 pub const LEND: u8 = b'L';
@@ -23,8 +23,9 @@ pub const WRITE: u8 = b'W';
 pub const SELECT: u8 = b'S';
 pub const TOGGLE: u8 = b'T';
 pub const START: u8 = b'G';
-/// Put byte a, and then b times more, up to 1,023.
+/// Put byte a, and then b modulo 1,024 times more.
 pub const PUT: u8 = b'P';
+pub const MOST_PUTS: u32 = 1_024;
 /// Runs of the b bytes of the pictures from a on, or of what there is of them.
 pub const PUT_RUN: u8 = b'U';
 pub const WRITE_RUN: u8 = b'X';
@@ -40,12 +41,12 @@ pub const BLENDS: u8 = b'M';
 /// Prints checksums of fades of length a.
 pub const FADES: u8 = b'E';
 
-/// The records that call the display.
+/// The records that call the display that there is.
 pub const CALLS: [u8; 10] =
     [WRITE, SELECT, TOGGLE, START, PUT, PUT_RUN, WRITE_RUN, FILL, BAND, FRAME];
 
 /// The buffers are longer than any right length, so that a call can be lent too much.
-const TABLES_ROOM: usize = TABLES_LEN + 16;
+const TABLES_ROOM: usize = Bits::Two.tables_len() + 16;
 const PIXELS_ROOM: usize = 4_096 + 16;
 
 /// One record: a letter and two numbers.
@@ -124,14 +125,26 @@ impl Default for Stage {
 }
 
 impl Stage {
+    /// Before the first record there is a display of one bit.
     pub fn new() -> Stage {
+        Stage::of(Display::fresh(Bits::One))
+    }
+
+    fn of(display: Display) -> Stage {
         Stage {
-            display: Display::new(),
+            lent: Lent { tables: display.bits().tables_len(), pictures: 0, out: 0 },
+            display,
             tables: vec![0; TABLES_ROOM],
             pictures: vec![0; PIXELS_ROOM],
             out: vec![0; PIXELS_ROOM],
-            lent: Lent { tables: TABLES_LEN, pictures: 0, out: 0 },
         }
+    }
+
+    /// Makes a display and answers the number.
+    fn make(&mut self, bits: u32) -> u32 {
+        let (answer, display) = Display::new(bits);
+        *self = Stage::of(display);
+        answer
     }
 
     /// Does what one record asks and answers the call's number, 0 where it calls nothing, and the
@@ -158,13 +171,13 @@ impl Stage {
             TOGGLE => return display.toggle(a),
             START => return display.start(),
             PUT => {
-                let puts = (0..=b % 1_024).map(|_| display.put(lent_tables, a as u8));
+                let puts = (0..=b % MOST_PUTS).map(|_| display.put(lent_tables, a as u8));
                 return puts.last().expect("one at least");
             }
             FILL => return display.fill(lent_out),
             BAND => return display.paint(a, b, lent_tables, lent_pictures, lent_out),
             FRAME => return display.frame(lent_tables, lent_pictures, lent_out),
-            NEW => *self = Stage::new(),
+            NEW => return self.make(a),
             LEND => self.lend(a, b as usize),
             FILL_TABLES => pattern(tables, a, b, false),
             FILL_PICTURES => pattern(pictures, a, b, true),

@@ -1,14 +1,17 @@
 //! 01 "Sheet program and host entry", its first two paragraphs: lines of hexadecimal, one frame a
-//! line.
+//! line. 02 K2: "the sheet program has one" bit.
 
 use crate::answers::DONE;
 use crate::display::Display;
-use crate::tables::TABLES_LEN;
+use crate::tables::Bits;
 
 /// "at most 8,192 digits"
 pub const MOST_DIGITS: usize = 8_192;
 /// "At most 4,096 output bytes are lent"
 pub const MOST_OUTPUT: usize = 4_096;
+
+/// "the sheet program has one"
+const BITS: Bits = Bits::One;
 
 /// One well formed line: what to load, what to write, and the pictures.
 #[derive(Clone, Debug, Default)]
@@ -102,7 +105,7 @@ impl Default for Sheet {
 
 impl Sheet {
     pub fn new() -> Sheet {
-        Sheet { display: Display::new(), tables: vec![0; TABLES_LEN] }
+        Sheet { display: Display::fresh(BITS), tables: vec![0; BITS.tables_len()] }
     }
 
     /// The printed line, with its line feed. "A badly formed, empty or too long line prints FE and

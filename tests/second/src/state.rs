@@ -1,14 +1,16 @@
-//! The state as the calls from C have it: 436 bytes, 109 little-endian words of 32 bits. Every 436
+//! The state as the calls from C have it: 440 bytes, 110 little-endian words of 32 bits. Every 440
 //! bytes stand for some state.
 
 use crate::display::{Display, Selected};
-use crate::words::{Words, WORDS};
+use crate::tables::Bits;
+use crate::words::{field, Words, WORDS};
 
-pub const STATE_LEN: usize = 436;
+pub const STATE_LEN: usize = 440;
 
 /// The places of the parts: "pending registers 0..51 at byte 0, active registers 0..51 at byte 208,
 /// frame number at 416, error word at 420, selected at 424 (0: nothing is selected; any other:
-/// something is), selection number at 428, place at 432".
+/// something is), selection number at 428, place at 432, profile at 436 (bit 0 set: two bits a
+/// glyph pixel; clear: one; its other bits count for nothing)".
 pub const PENDING_AT: usize = 0;
 pub const ACTIVE_AT: usize = 208;
 pub const FRAME_AT: usize = 416;
@@ -16,8 +18,9 @@ pub const ERRORS_AT: usize = 420;
 pub const SELECTED_AT: usize = 424;
 pub const SELECTION_AT: usize = 428;
 pub const PLACE_AT: usize = 432;
+pub const PROFILE_AT: usize = 436;
 
-/// The state that bytes stand for; None where they are not 436.
+/// The state that bytes stand for; None where they are not 440.
 pub fn read_state(bytes: &[u8]) -> Option<Display> {
     if bytes.len() != STATE_LEN {
         return None;
@@ -25,6 +28,7 @@ pub fn read_state(bytes: &[u8]) -> Option<Display> {
     let word = |at: usize| u32::from_le_bytes(bytes[at..at + 4].try_into().expect("four bytes"));
     let words = |at: usize| Words(std::array::from_fn(|register| word(at + 4 * register)));
     Some(Display {
+        bits: if field(word(PROFILE_AT), 0, 0) == 1 { Bits::Two } else { Bits::One },
         pending: words(PENDING_AT),
         active: words(ACTIVE_AT),
         frame: word(FRAME_AT),
@@ -37,7 +41,7 @@ pub fn read_state(bytes: &[u8]) -> Option<Display> {
     })
 }
 
-/// The canonical bytes of a state: "the calls write 0 or 1" for selected.
+/// The canonical bytes of a state: "the calls write 0 or 1" for selected and for the profile.
 pub fn state_bytes(display: &Display) -> [u8; STATE_LEN] {
     let mut bytes = [0; STATE_LEN];
     let mut store = |at: usize, word: u32| bytes[at..at + 4].copy_from_slice(&word.to_le_bytes());
@@ -50,5 +54,6 @@ pub fn state_bytes(display: &Display) -> [u8; STATE_LEN] {
     store(SELECTED_AT, u32::from(display.selected.is_any));
     store(SELECTION_AT, display.selected.selection);
     store(PLACE_AT, display.selected.place);
+    store(PROFILE_AT, u32::from(display.bits == Bits::Two));
     bytes
 }

@@ -2,11 +2,12 @@
 //! same text, byte for byte. After each painting the script has every byte of the output printed.
 //!
 //!   SPOONWING_FIGURES   what runs the program when told its name, ../../tools/run unless set
-//!   SPOONWING_RECORDS   how many generated records to compare, 20,000 unless set
+//!   SPOONWING_RECORDS   how many generated records to compare, 30,000 unless set
 //!   SPOONWING_SEED      compares the script of this one seed only, aloud
 
 use second::beside::{fewer, figures, lines, seed, seeds};
-use second::cases::{gate_script, gen_calls, gen_edges, EDGES, RECORDS_A_SCRIPT, SCRIPTS};
+use second::cases::{gate_script, gen_calls, gen_edges, letter_script};
+use second::cases::{EDGES, RECORDS_A_SCRIPT, SCRIPTS};
 use second::script::{print_script, script_text, views, Call, Stage};
 use std::fs;
 use std::path::Path;
@@ -105,6 +106,12 @@ fn the_program_prints_the_edges() {
     }
 }
 
+#[test]
+fn the_program_prints_the_letters() {
+    compare("the script of letters", &letter_script(), &figures)
+        .unwrap_or_else(|told| panic!("{told}"));
+}
+
 /// Compares with a program that prints other text where ours begins a line so, and asks that this is
 /// seen and that the script is made as small as that.
 fn catch(ours: &str, theirs: &str, records: usize) {
@@ -120,12 +127,13 @@ fn catch(ours: &str, theirs: &str, records: usize) {
     assert!(told.contains(&format!("differs, of {records} records")), "{told}");
 }
 
-/// The comparison itself, on programs that are known to be wrong: for 10 one answers 9, and one
-/// counts a refused write as done.
+/// The comparison itself, on programs that are known to be wrong: for 10 one answers 9, one counts
+/// a refused write as done, and one makes a display of any number of bits.
 #[test]
 fn impostors_are_caught_and_their_scripts_made_small() {
     // The update bit, the screen, a layer, its place and its size, a start.
     catch("G 0a", "G 09", 6);
     // A word among the pictures, the run.
     catch("X 01 00000001", "X 01 00000002", 2);
+    catch("N 11", "N 00", 1);
 }

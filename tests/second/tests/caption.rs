@@ -8,7 +8,7 @@ use second::beside::program;
 use second::display::Display;
 use second::host::image_words;
 use second::state::state_bytes;
-use second::tables::{Bank, Kind, TABLES_LEN};
+use second::tables::{Bank, Bits, Kind};
 use std::fs;
 
 /// The bytes of a file that `tools/caption` leaves.
@@ -19,10 +19,10 @@ fn left(name: &str) -> Vec<u8> {
 
 /// The caption's tables in bank 1 of controller 0, and a byte too many, whose error bit is cleared.
 fn load(display: &mut Display, given: &[u8]) -> Vec<u8> {
-    let mut tables = vec![0; TABLES_LEN];
+    let mut tables = vec![0; display.bits().tables_len()];
     for bank in Kind::ALL.map(|kind| Bank { g: 0, kind, b: 1 }) {
         assert_eq!(display.select(bank.selection()), DONE);
-        for &byte in bank.bytes(given) {
+        for &byte in display.tables(given).bank(bank) {
             assert_eq!(display.put(&mut tables, byte), DONE);
         }
     }
@@ -35,7 +35,7 @@ fn load(display: &mut Display, given: &[u8]) -> Vec<u8> {
 #[test]
 fn the_kept_display_is_ours() {
     let (theirs, pictures) = (left("output.bin"), left("pictures.bin"));
-    let mut display = Display::new();
+    let mut display = Display::fresh(Bits::One);
     let tables = load(&mut display, &left("tables.bin"));
     assert!(tables == left("tables.bin"), "other tables than the caption's are loaded");
     let words = image_words(&left("image.bin")).expect("it is whole");

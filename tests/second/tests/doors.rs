@@ -13,7 +13,7 @@ use second::cases::{gen_host, gen_row, HostCase, ROWS};
 use second::doors::*;
 use second::host::{host_frame, image_words};
 use second::state::*;
-use second::tables::{BANK_LEN, CONTROLLER_LEN, TABLES_LEN};
+use second::tables::{Bits, Tables};
 use std::cell::RefCell;
 use std::collections::BTreeMap;
 
@@ -78,7 +78,7 @@ fn compare_row(calls: Calls, name: &str, steps: Vec<Step>) -> Result<Vec<u32>, S
 fn smaller(steps: Vec<Step>, differs: &dyn Fn(&[Step]) -> bool) -> Vec<Step> {
     let mut steps = fewer(steps, differs);
     for i in 0..steps.len() {
-        for run in [CONTROLLER_LEN, BANK_LEN, 208, 64, 4] {
+        for run in [4_096, 1_024, 208, 64, 4] {
             zero_runs(&mut steps, i, run, differs);
         }
     }
@@ -139,8 +139,8 @@ fn the_calls_answer_the_generated_rows() {
 }
 
 /// A screen of one pixel, shown, with a bank selected that can be put to; and a run of bytes that
-/// are two writes.
-fn one_pixel() -> [Step; 2] {
+/// are two writes. Selected and profile are not as a call writes them.
+fn one_pixel(bits: Bits) -> [Step; 2] {
     let mut state = vec![0; STATE_LEN];
     for (register, word) in [(0, 0b101_u32), (1, 0x0001_0001)] {
         for at in [PENDING_AT, ACTIVE_AT] {
@@ -149,13 +149,19 @@ fn one_pixel() -> [Step; 2] {
     }
     state[SELECTED_AT] = 7;
     state[SELECTION_AT] = 1;
+    state[PROFILE_AT] = 6 | u8::from(bits == Bits::Two);
     let run = vec![2, 1, 2, 3, 4, 51, 5, 6, 7, 8];
     [(STATE, state), (RUN, run)].map(|(buffer, bytes)| Step::Store { buffer, bytes })
 }
 
 /// What a call on that state needs.
-fn lent_to(door: Door) -> [Lent; BUFFERS] {
-    door.lent([STATE_LEN, TABLES_LEN, 0, 4, 10, COUNT_LEN])
+fn lent_to(door: Door, bits: Bits) -> [Lent; BUFFERS] {
+    door.lent([STATE_LEN, bits.tables_len(), 0, 4, 10, COUNT_LEN])
+}
+
+/// Every call on a state of either number of bits.
+fn doors_and_bits() -> impl Iterator<Item = (Door, Bits)> {
+    Door::ALL.into_iter().flat_map(|door| Bits::ALL.map(|bits| (door, bits)))
 }
 
 /// A host that has no bytes to lend may pass NULL: for any of the buffers of any call but a count's
@@ -166,25 +172,24 @@ fn the_calls_take_null_for_no_bytes() {
     let doors = RefCell::new(Doors::start());
     let calls = |steps: &[Step]| doors.borrow_mut().row(steps);
     let mut counts = BTreeMap::new();
-    let ways = 1 << COUNT;
-    for (door, emptied) in Door::ALL.into_iter().flat_map(|door| (0..ways).map(move |i| (door, i)))
-    {
-        let mut lent = lent_to(door);
+    let ways = |(door, bits)| (0..1 << COUNT).map(move |emptied| (door, bits, emptied));
+    for (door, bits, emptied) in doors_and_bits().flat_map(ways) {
+        let mut lent = lent_to(door, bits);
         for buffer in (0..COUNT).filter(|buffer| emptied >> buffer & 1 == 1) {
             lent[buffer].length = 0;
         }
-        let mut steps = one_pixel().to_vec();
-        steps.push(Step::Call { door, a: 0, b: 8, lent, null: true });
+        let mut steps = one_pixel(bits).to_vec();
+        steps.push(Step::Call { door, a: 2, b: 8, lent, null: true });
         let answers = compare_row(&calls, &format!("with NULL for {emptied:05b}"), steps);
         let answers = answers.unwrap_or_else(|told| panic!("{told}"));
         if !door.is_read() {
             *counts.entry(answers[0]).or_insert(0) += 1;
         }
     }
-    // Half of the 11 times 32 have no state. Of the other half, no output is refused in 8 fills of
-    // 16 and in 8 paintings of each kind, then no tables in 4 of each kind, in 8 puts and in the 4
-    // of 8 runs of puts that have bytes.
-    let expected = [(DONE, 132), (WRONG_TABLES, 20), (WRONG_OUTPUT, 24), (WRONG_STATE, 176)];
+    // For either number of bits half of the 11 times 32 have no state. Of the other half, no output
+    // is refused in 8 fills of 16 and in 8 paintings of each kind, then no tables in 4 of each
+    // kind, in 8 puts and in the 4 of 8 runs of puts that have bytes.
+    let expected = [(DONE, 264), (WRONG_TABLES, 40), (WRONG_OUTPUT, 48), (WRONG_STATE, 352)];
     assert_eq!(counts, BTreeMap::from(expected));
 }
 
@@ -193,14 +198,14 @@ fn the_calls_take_null_for_no_bytes() {
 fn the_calls_take_every_alignment() {
     let doors = RefCell::new(Doors::start());
     let calls = |steps: &[Step]| doors.borrow_mut().row(steps);
-    for door in Door::ALL {
+    for (door, bits) in doors_and_bits() {
         let mut steps = Vec::new();
         let ways = |buffer| places(buffer).into_iter().map(move |past| (buffer, past));
         for (buffer, past) in (0..BUFFERS).flat_map(ways) {
-            let mut lent = lent_to(door);
+            let mut lent = lent_to(door, bits);
             lent[buffer].past = past;
-            steps.extend(one_pixel());
-            steps.push(Step::Call { door, a: 0, b: 5, lent, null: false });
+            steps.extend(one_pixel(bits));
+            steps.push(Step::Call { door, a: 2, b: 5, lent, null: false });
         }
         let answers = compare_row(&calls, "alignments", steps);
         let answers = answers.unwrap_or_else(|told| panic!("{told}"));
@@ -217,8 +222,9 @@ fn frame_of(calls: Calls, case: &HostCase, (width, height): (i64, i64)) -> (Vec<
     state.resize(STATE_LEN, 0);
     let size = (width | height << 16) as u32;
     state[ACTIVE_AT + 4..ACTIVE_AT + 8].copy_from_slice(&size.to_le_bytes());
+    state[PROFILE_AT] = u8::from(Tables::by_length(&case.tables).bits == Bits::Two);
     let output = 4 * (width * height) as usize;
-    let lengths = [STATE_LEN, TABLES_LEN, case.pictures.len(), output, 0, 0];
+    let lengths = [STATE_LEN, case.tables.len(), case.pictures.len(), output, 0, 0];
     let lent = lengths.map(|length| Lent { length, past: 0 });
     let mut steps: Vec<Step> =
         [(STATE, &state), (TABLES, &case.tables), (PICTURES, &case.pictures)]
@@ -236,7 +242,7 @@ fn frame_of(calls: Calls, case: &HostCase, (width, height): (i64, i64)) -> (Vec<
 fn a_cut_screen_has_a_cut_frame() {
     let doors = RefCell::new(Doors::start());
     let calls = |steps: &[Step]| doors.borrow_mut().row(steps);
-    let mut frames = 0;
+    let mut frames = [0, 0];
     for seed in 0..600 {
         let case = gen_host(seed);
         let HostCase { image, frame, tables, pictures, output } = &case;
@@ -252,23 +258,33 @@ fn a_cut_screen_has_a_cut_frame() {
         let part = lines.flat_map(|line| &line[..4 * columns as usize]).copied();
         assert!(cut == part.collect::<Vec<u8>>(), "seed {seed}: it is no part of the whole frame");
         assert_eq!(cut_errors, errors, "seed {seed}");
-        frames += 1;
+        frames[Tables::by_length(tables).bits.number() - 1] += 1;
     }
-    assert!(frames > 200, "only {frames} frames are cut");
+    assert!(frames.iter().all(|&count| count > 100), "only {frames:?} frames are cut");
+}
+
+/// The frame number stands still on a refused start.
+fn stand_still(door: Door, stage: &mut Stage, told: &mut Told) {
+    if door == Door::Start && (RESERVED_BIT..=SAME_DEPTH).contains(&told.answer) {
+        let number = |bytes: &[u8]| u32::from_le_bytes(bytes.try_into().expect("four"));
+        let back = number(&told.state[FRAME_AT..ERRORS_AT]).wrapping_sub(1).to_le_bytes();
+        told.state[FRAME_AT..ERRORS_AT].copy_from_slice(&back);
+        stage.rooms[STATE][FRAME_AT..ERRORS_AT].copy_from_slice(&back);
+    }
+}
+
+/// A wrong number makes a state of two bits.
+fn make_two_bits(door: Door, stage: &mut Stage, told: &mut Told) {
+    if door == Door::New && told.answer == WRONG_BITS {
+        told.state[PROFILE_AT] = 1;
+        stage.rooms[STATE][PROFILE_AT] = 1;
+    }
 }
 
 /// The comparison itself, on calls that are known to be wrong.
 #[test]
 fn impostors_are_caught_and_their_rows_made_small() {
-    let stops = with_fault(|door, stage, told| {
-        // The frame number stands still on a refused start.
-        if door == Door::Start && (RESERVED_BIT..=SAME_DEPTH).contains(&told.answer) {
-            let number = |bytes: &[u8]| u32::from_le_bytes(bytes.try_into().expect("four"));
-            let back = number(&told.state[FRAME_AT..ERRORS_AT]).wrapping_sub(1).to_le_bytes();
-            told.state[FRAME_AT..ERRORS_AT].copy_from_slice(&back);
-            stage.rooms[STATE][FRAME_AT..ERRORS_AT].copy_from_slice(&back);
-        }
-    });
+    let (stops, soft) = (with_fault(stand_still), with_fault(make_two_bits));
     let spills = with_fault(|door, _, told| told.is_touched |= door == Door::Put);
     // A refused item counts as done.
     let late = with_fault(|door, _, told| {
@@ -281,10 +297,11 @@ fn impostors_are_caught_and_their_rows_made_small() {
         told.pop();
         told
     };
-    let impostors: [(Calls, &str, usize); 4] = [
+    let impostors: [(Calls, &str, usize); 5] = [
         (&stops, "byte 416 of the state", 4),
         (&spills, "beside a buffer, is touched", 1),
         (&late, "byte 0 of the count", 2),
+        (&soft, "byte 436 of the state", 1),
         (&ends, "the program ends", 1),
     ];
     for (impostor, said, most) in impostors {

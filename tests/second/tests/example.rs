@@ -4,16 +4,13 @@
 //!   SPOONWING_RIVER    the folder that `tools/picture` leaves, ../../target/river unless set
 
 use second::answers::DONE;
+use second::beside::{picture, program};
 use second::host::host_frame;
-use std::env;
 use std::fs;
-use std::path::Path;
-use std::process::Command;
 
 /// The bytes of a file that `tools/picture` leaves.
 fn left(name: &str) -> Vec<u8> {
-    let set = env::var_os("SPOONWING_RIVER").unwrap_or("../../target/river".into());
-    let path = Path::new(env!("CARGO_MANIFEST_DIR")).join(set).join(name);
+    let path = program("SPOONWING_RIVER", "../../target/river").join(name);
     fs::read(&path).unwrap_or_else(|error| panic!("{} is not read: {error}", path.display()))
 }
 
@@ -32,13 +29,8 @@ fn the_example_is_painted_alike() {
 
 #[test]
 fn the_picture_is_the_example() {
-    let path = Path::new(env!("CARGO_MANIFEST_DIR")).join("../../examples/river.png");
-    let shown = Command::new("pngtopnm")
-        .arg(&path)
-        .output()
-        .unwrap_or_else(|error| panic!("pngtopnm (of netpbm) does not run: {error}"));
-    assert!(shown.status.success(), "{} is not read", path.display());
     let mut painted = b"P6\n640 360\n255\n".to_vec();
     painted.extend(left("output.bin").chunks(4).flat_map(|pixel| &pixel[..3]));
-    assert!(shown.stdout == painted, "`tools/picture examples/river.png` makes another picture");
+    let is_same = picture("river.png") == painted;
+    assert!(is_same, "`tools/picture examples/river.png` makes another picture");
 }

@@ -1,13 +1,13 @@
-//! 01 "Bench figures", starred and unstarred, the worked sheet line, and 01 "Errors we have met in
-//! such displays".
+//! 01 "Bench figures", starred and unstarred, the worked sheet line, 01 "Errors we have met in such
+//! displays", and the numbers of 02 K2.
 
 use second::answers::*;
 use second::display::Display;
-use second::draw::List;
+use second::draw::{Letters, List};
 use second::fade::Fade;
 use second::paint::blend;
 use second::sheet::print_sheet;
-use second::tables::TABLES_LEN;
+use second::tables::{Bank, Bits, Kind};
 use second::words::layer_word;
 
 /// "Blend (a, over, under)"
@@ -52,14 +52,15 @@ fn box_figures() {
         let words: [u32; 4] = [10 << 28 | 5 << 12 | 2, 0, weight << 24 | 3 << 12 | 1, 7];
         let mut bank: Vec<u8> = words.into_iter().flat_map(u32::to_le_bytes).collect();
         bank.resize(768, 0);
-        let index = List::read(&bank).index_at(&[0; 256], &[0; 768], u, v);
+        let letters = Letters { strings: &[0; 256], font: &[0; 768], bits: Bits::One };
+        let index = List::read(&bank).index_at(&letters, u, v);
         assert_eq!(index, if drawn { 7 } else { 0 }, "weight {weight} at ({u},{v})");
     }
 }
 
 /// A display with a screen of that size whose update bit and display bit are pending.
 fn display(width: u32, height: u32) -> Display {
-    let mut display = Display::new();
+    let mut display = Display::fresh(Bits::One);
     display.write(0, 0b101);
     display.write(1, width | height << 16);
     display
@@ -99,7 +100,7 @@ fn picture_figures() {
         write_layer(&mut display, 5, false, 1, (3, 3), (1, 1));
         assert_eq!(display.start(), DONE);
         assert_eq!(
-            display.frame(&[0; TABLES_LEN], &vec![0; length], &mut [0; 64]),
+            display.frame(&[0; Bits::One.tables_len()], &vec![0; length], &mut [0; 64]),
             answer,
             "{length} bytes"
         );
@@ -110,7 +111,7 @@ fn picture_figures() {
 /// error met before.
 #[test]
 fn toggle_figures() {
-    let mut display = Display::new();
+    let mut display = Display::fresh(Bits::One);
     display.toggle(0x11);
     display.toggle(0x10);
     assert_eq!(display.errors(), 0x01);
@@ -150,8 +151,77 @@ fn depth_and_order() {
     write_layer(&mut display, 1, false, 0, (0, 0), (1, 1));
     assert_eq!(display.start(), DONE);
     let mut out = [0; 4];
+    let tables = [0; Bits::One.tables_len()];
     // Layer 0 is 9, half seen; layer 1 is 101, half seen.
-    assert_eq!(display.frame(&[0; TABLES_LEN], &[9, 0, 0, 128, 101, 0, 0, 128], &mut out), DONE);
+    assert_eq!(display.frame(&tables, &[9, 0, 0, 128, 101, 0, 0, 128], &mut out), DONE);
     let lower = (128 * 101 + 127 * 200 + 127) / 255;
     assert_eq!(out, [((128 * 9 + 127 * lower + 127) / 255) as u8, 0, 0, 255]);
+}
+
+// ---- 02 K2
+
+/// "A font bank grows to 1,536 bytes, a bank to 2,624, the tables to 41,984." Each is all that it
+/// is made of, with one bit too, and no kind but the font has another end.
+#[test]
+fn lengths_of_the_tables() {
+    let lengths = [(Bits::One, 768, 1_856, 29_696), (Bits::Two, 1_536, 2_624, 41_984)];
+    for (bits, font, bank, tables) in lengths {
+        assert_eq!(Kind::ALL.map(|kind| kind.end(bits)), [768, 64, 256, font]);
+        assert_eq!(Kind::ALL.map(|kind| kind.end(bits)).iter().sum::<usize>(), bank);
+        assert_eq!(16 * bank, tables);
+        assert_eq!(bits.tables_len(), tables);
+        let mut starts: Vec<(usize, usize)> = Kind::ALL
+            .into_iter()
+            .flat_map(Bank::all)
+            .map(|bank| (bank.start(bits), bank.kind.end(bits)))
+            .collect();
+        starts.sort();
+        for pair in starts.windows(2) {
+            assert_eq!(pair[0].0 + pair[0].1, pair[1].0, "they lie without gaps");
+        }
+    }
+}
+
+/// "0 leaves the pixel, 1 to 3 give text colour plus value minus one, modulo 16. A glyph line is
+/// two bytes, leftmost pixel in the top two bits of the first."
+#[test]
+fn values_of_a_glyph() {
+    // Line 3 of glyph 65: 0, 1, 2, 3, 3, 0, 1, 2.
+    let mut font = [0; 1_536];
+    font[16 * (65 - 32) + 2 * 3..][..2].copy_from_slice(&[0b00_01_10_11, 0b11_00_01_10]);
+    let mut strings = [0; 256];
+    strings[0] = 65;
+    let letters = Letters { strings: &strings, font: &font, bits: Bits::Two };
+    // A box in colour 9 under the text, so that a 0 is seen to leave it.
+    let indexes = [
+        (2, [9, 2, 3, 4, 4, 9, 2, 3]),
+        (14, [9, 14, 15, 0, 0, 9, 14, 15]),
+        (15, [9, 15, 0, 1, 1, 9, 15, 0]),
+        (0xFE, [9, 14, 15, 0, 0, 9, 14, 15]),
+    ];
+    for (colour, line) in indexes {
+        for (number, scale) in [(0, 1), (1, 2), (2, 4), (3, 8)] {
+            let end = 63;
+            let words = [14 << 28 | end << 12, 0, number << 30 | end << 12, colour << 8 | 9];
+            let mut bank: Vec<u8> = words.into_iter().flat_map(u32::to_le_bytes).collect();
+            bank.resize(768, 0);
+            let list = List::read(&bank);
+            let at = |u: i64| list.index_at(&letters, u, 3 * scale + scale - 1);
+            let drawn: Vec<usize> = (0..8 * scale).map(at).collect();
+            let wide = line.into_iter().flat_map(|index| vec![index; scale as usize]);
+            assert_eq!(drawn, wide.collect::<Vec<usize>>(), "colour {colour} at scale {scale}");
+        }
+    }
+}
+
+/// "17 for a bit number other than 1 or 2 when making a state, handing back a fresh one-bit state".
+#[test]
+fn bits_of_a_state() {
+    for bits in Bits::ALL {
+        assert_eq!(Display::new(bits.number() as u32), (DONE, Display::fresh(bits)));
+        assert_eq!(Display::fresh(bits).bits(), bits);
+    }
+    for wrong in [0, 3, 4, 0x101, 0x102, 1 << 31, u32::MAX] {
+        assert_eq!(Display::new(wrong), (WRONG_BITS, Display::fresh(Bits::One)));
+    }
 }

@@ -7,9 +7,9 @@
 
 use second::answers::*;
 use second::beside::{seed, seeds, Empty, Host};
-use second::cases::{gen_host, word_images, HostCase, HOST_CALLS};
+use second::cases::{drawing_calls, gen_host, with_lines, word_images, HostCase, HOST_CALLS};
 use second::host::{host_frame, image_words};
-use second::tables::{BANK_LEN, CONTROLLER_LEN, TABLES_LEN};
+use second::tables::{Bits, Tables};
 use second::words::{layer_word, LAYERS};
 use std::collections::BTreeMap;
 
@@ -55,7 +55,7 @@ fn smaller(mut case: HostCase, entry: Entry) -> HostCase {
         };
     }
     zero_runs(&mut case, |case| &mut case.image, 4, entry);
-    for run in [CONTROLLER_LEN, BANK_LEN, 64, 16, 4] {
+    for run in [4_096, 1_024, 64, 16, 4, 1] {
         zero_runs(&mut case, |case| &mut case.tables, run, entry);
     }
     case
@@ -113,25 +113,38 @@ fn shown(case: &HostCase) -> String {
 }
 
 /// A call with an image of the sweep, whose screens have one pixel at most.
-fn swept_call(image: Vec<u8>) -> HostCase {
+fn swept_call(image: Vec<u8>, bits: Bits) -> HostCase {
     HostCase {
         image,
         frame: 0,
-        tables: vec![0; TABLES_LEN],
+        tables: vec![0; bits.tables_len()],
         pictures: Vec::new(),
         output: vec![1, 2, 3, 4],
     }
 }
 
+fn compare_all(name: &str, cases: impl IntoIterator<Item = HostCase>) {
+    let mut host = Host::start();
+    for (i, case) in cases.into_iter().enumerate() {
+        if let Err(told) = compare(&mut |case| host.call(case, Empty::Pointer), &case) {
+            panic!("{name} {i}: {told}\n{}", shown(&case));
+        }
+    }
+}
+
+/// Every bit of an image that passes the other way round, and every two faults of it.
 #[test]
 fn the_entry_answers_the_swept_images() {
-    // Every bit of an image that passes the other way round, and every two faults of it.
-    let mut host = Host::start();
-    for (i, image) in word_images().into_iter().enumerate() {
-        let case = swept_call(image);
-        if let Err(told) = compare(&mut |case| host.call(case, Empty::Pointer), &case) {
-            panic!("image {i} of the sweep: {told}\n{}", shown(&case));
-        }
+    for bits in Bits::ALL {
+        compare_all("image", word_images().into_iter().map(|image| swept_call(image, bits)));
+    }
+}
+
+/// Every character, string length and number, opcode, weight and text colour.
+#[test]
+fn the_entry_paints_the_drawings() {
+    for bits in Bits::ALL {
+        compare_all("drawing", drawing_calls(bits));
     }
 }
 
@@ -157,13 +170,15 @@ fn the_entry_answers_the_generated_calls() {
 #[test]
 fn the_entry_takes_null_for_no_bytes() {
     let mut host = Host::start();
-    let painted = swept_call(word_images().swap_remove(0));
+    let painted = Bits::ALL.map(|bits| swept_call(word_images().swap_remove(0), bits));
     let mut framed = painted.clone();
-    framed.image[4 * layer_word(0)] &= !0b10;
-    framed.pictures = vec![9; 4];
+    for case in &mut framed {
+        case.image[4 * layer_word(0)] &= !0b10;
+        case.pictures = vec![9; 4];
+    }
     let mut counts = BTreeMap::new();
     for (case, emptied) in
-        [&painted, &framed].into_iter().flat_map(|case| (0..16).map(move |i| (case, i)))
+        painted.iter().chain(&framed).flat_map(|case| (0..16).map(move |i| (case, i)))
     {
         let mut case = case.clone();
         let HostCase { image, tables, pictures, output, .. } = &mut case;
@@ -178,24 +193,64 @@ fn the_entry_takes_null_for_no_bytes() {
         }
     }
     // Half of all have no image; then no output, no tables, no pictures are asked for in this
-    // order.
+    // order, with either number of bits.
     let expected =
-        [(DONE, 3), (WRONG_TABLES, 4), (WRONG_OUTPUT, 8), (WRONG_PICTURES, 1), (WRONG_IMAGE, 16)];
+        [(DONE, 6), (WRONG_TABLES, 8), (WRONG_OUTPUT, 16), (WRONG_PICTURES, 2), (WRONG_IMAGE, 32)];
     assert_eq!(counts, BTreeMap::from(expected));
+}
+
+/// What is told of the first generated call on which an entry is caught.
+fn caught(impostor: Entry) -> String {
+    let caught = (0..100).find_map(|seed| compare_generated(impostor, seed).err());
+    let told = caught.expect("the impostor goes unseen");
+    assert!(told.starts_with("seed ") && told.contains("a small call that differs"), "{told}");
+    told
+}
+
+/// How many words are shown behind a name.
+fn words_of(told: &str, name: &str) -> usize {
+    let words = told.lines().find_map(|line| line.strip_prefix(name)).expect("they are shown");
+    words.matches(": ").count()
 }
 
 /// The comparison itself, on an entry that is known to be wrong: its fades stand still at frame 0.
 #[test]
 fn an_impostor_is_caught_and_its_call_made_small() {
-    let mut impostor = |case: &HostCase| {
+    let told = caught(&mut |case: &HostCase| {
         let mut out = case.output.clone();
         let answer = host_frame(&case.image, 0, &case.tables, &case.pictures, &mut out);
         (answer, false, out)
-    };
-    let caught = (0..100).find_map(|seed| compare_generated(&mut impostor, seed).err());
-    let told = caught.expect("the impostor goes unseen");
-    assert!(told.starts_with("seed ") && told.contains("a small call that differs"), "{told}");
-    let registers = told.lines().find_map(|line| line.strip_prefix("registers")).expect("they are");
+    });
     // Display, size and background, and the words of the one layer that fades.
-    assert!(registers.matches(": ").count() <= 9, "{told}");
+    assert!(words_of(&told, "registers") <= 9, "{told}");
+}
+
+/// An edit of the values of a glyph's line.
+type Edit = fn([u8; 8]) -> [u8; 8];
+
+/// And on entries that read glyphs of two bits otherwise: from the right, second byte first, the
+/// lower bit of a pixel as its upper one, and every letter in one colour.
+#[test]
+fn wrong_letters_are_caught_and_their_calls_made_small() {
+    let edits: [Edit; 4] = [
+        |[a, b, c, d, e, f, g, h]| [h, g, f, e, d, c, b, a],
+        |[a, b, c, d, e, f, g, h]| [e, f, g, h, a, b, c, d],
+        |line| line.map(|value| [0, 2, 1, 3][usize::from(value)]),
+        |line| line.map(|value| value.min(1)),
+    ];
+    for edit in edits {
+        let told = caught(&mut |case: &HostCase| {
+            let mut tables = case.tables.clone();
+            let read = Tables::by_length(&case.tables);
+            if read.bits == Bits::Two {
+                tables = with_lines(read, Bits::Two, edit);
+            }
+            let mut out = case.output.clone();
+            let answer = host_frame(&case.image, case.frame, &tables, &case.pictures, &mut out);
+            (answer, false, out)
+        });
+        // The opcodes up to the text's, the rest of its instruction, a colour or two, a string and
+        // a glyph.
+        assert!(words_of(&told, "table words") <= 16, "{told}");
+    }
 }

@@ -7,6 +7,7 @@ use second::display::Display;
 use second::fade::Fade;
 use second::paint::blend;
 use second::script::{Call, Stage, BAND, CALLS, FILL, FRAME, PUT, PUT_RUN, WRITE_RUN};
+use second::tables::Bits;
 
 const SCRIPTS: u64 = 30;
 const CALLS_A_SCRIPT: usize = 1_500;
@@ -202,7 +203,7 @@ fn toggles_add_up() {
     let words = [0, 1, 0x10, 0x11, 0x8000_0000, 0x7FFF_FFFF, u32::MAX];
     for first in words {
         for second in words {
-            let mut twice = Display::new();
+            let mut twice = Display::fresh(Bits::One);
             assert_eq!((twice.toggle(first), twice.toggle(second)), (DONE, DONE));
             assert_eq!(twice.errors(), first ^ second);
         }

@@ -7,9 +7,12 @@
 //!   SPOONWING_SEED      tries the cases of this one seed only
 
 use second::beside::{all_seeds, figures, lines, try_all, Host, Tried};
-use second::cases::{gen_exchange, gen_invisible, gen_opaque, gen_split, Inputs, Pair};
+use second::cases::{gen_exchange, gen_invisible, gen_one_value, gen_opaque, gen_split};
+use second::cases::{with_lines, HostCase, Inputs, Pair};
+use second::host::host_frame;
 use second::paint::{band, blend, fill};
 use second::script::*;
+use second::tables::Bits;
 use std::collections::BTreeSet;
 use std::ops::RangeInclusive;
 
@@ -29,8 +32,16 @@ fn alike(one: &[u8], other: &[u8], pixels: impl IntoIterator<Item = usize>) -> R
     }
 }
 
+/// Each law is tried with either number of bits, and counted so.
+const EITHER: [(&str, usize); 2] = [("with one bit", 500), ("with two bits", 500)];
+
+fn bits_name(bits: Bits) -> String {
+    EITHER[bits.number() - 1].0.into()
+}
+
 fn counted(pair: &Pair, more: &[(&str, usize)]) -> Vec<(String, usize)> {
-    let kinds = pair.kinds.iter().map(|kind| (kind.clone(), 1));
+    let bits = bits_name(pair.one.bits);
+    let kinds = pair.kinds.iter().cloned().chain([bits]).map(|kind| (kind, 1));
     kinds.chain(more.iter().map(|&(name, count)| (name.to_string(), count))).collect()
 }
 
@@ -55,10 +66,10 @@ fn exchange(painted: Painter, seed: u64) -> Tried {
 
 /// What the layers under a depth leave.
 fn under(inputs: &Inputs, depth: u32) -> Vec<u8> {
-    let Inputs { words, frame, tables, pictures } = inputs;
+    let Inputs { words, frame, pictures, .. } = inputs;
     let mut out = vec![0; words.output_len() as usize];
     fill(words, &mut out);
-    band(words, *frame, 0, depth, tables, &pictures.concat(), &mut out);
+    band(words, *frame, 0, depth, inputs.lent_tables(), &pictures.concat(), &mut out);
     out
 }
 
@@ -110,18 +121,16 @@ fn between(painted: Painter, seed: u64) -> Tried {
             covers[at] += 1;
         }
     }
-    for at in 0..frame.len() {
-        if !(least[at]..=greatest[at]).contains(&frame[at]) {
-            return Err(format!(
-                "byte {at}: {} is not in {}..{}",
-                frame[at], least[at], greatest[at]
-            ));
-        }
+    let is_outside = |&at: &usize| !(least[at]..=greatest[at]).contains(&frame[at]);
+    if let Some(at) = (0..frame.len()).find(is_outside) {
+        let (byte, least, greatest) = (frame[at], least[at], greatest[at]);
+        return Err(format!("byte {at}: {byte} is not in {least}..{greatest}"));
     }
     let bytes = |test: &dyn Fn(usize) -> bool| {
         (0..frame.len()).filter(|&at| at % 4 < 3 && test(at)).count()
     };
     Ok(vec![
+        (bits_name(inputs.bits), 1),
         ("channels under two layers or more".into(), bytes(&|at| covers[at] >= 2)),
         ("channels that can be one number".into(), bytes(&|at| least[at] == greatest[at])),
         (
@@ -134,6 +143,20 @@ fn between(painted: Painter, seed: u64) -> Tried {
         ),
         ("channels amid".into(), bytes(&|at| least[at] < frame[at] && frame[at] < greatest[at])),
     ])
+}
+
+/// "1 to 3 give text colour plus value minus one, modulo 16."
+fn one_value(painted: Painter, seed: u64) -> Tried {
+    let (one_bit, two_bits, value) = gen_one_value(seed);
+    let (one, other) = (painted(&one_bit)?, painted(&two_bits)?);
+    alike(&one, &other, (0..one.len()).step_by(4))?;
+    let blank = with_lines(one_bit.lent_tables(), Bits::One, |_| [0; 8]);
+    let blank = Inputs { tables: blank, ..one_bit.clone() };
+    let all = |inputs: &Inputs| {
+        inputs.words.order().into_iter().flat_map(|n| inputs.shown(n)).collect::<Vec<_>>()
+    };
+    let pixels = all(&one_bit).into_iter().zip(all(&blank)).filter(|(one, other)| one != other);
+    Ok(vec![(format!("value {value}"), 1), ("pixels of text".into(), pixels.count())])
 }
 
 /// "fill, then the layers below any depth, then the rest, is one painting, frame and state": the
@@ -161,9 +184,7 @@ fn split_of(seed: u64) -> Split {
     }
     let seen = views(&stage);
     let after = [record(PUT, 0x5A, 0), record(START, 0, 0), record(FRAME, 0, 0)];
-    let way = |painting: &[Call]| {
-        [&[record(NEW, 0, 0)], &calls[..], painting, &seen, &after, &seen].concat()
-    };
+    let way = |painting: &[Call]| [&calls[..], painting, &seen, &after, &seen].concat();
     Split {
         depth,
         stage,
@@ -209,7 +230,7 @@ fn split_holds(split: &Split, whole: &[Vec<u8>], parts: &[Vec<u8>]) -> Tried {
         let (depth, whole, parts) = (split.depth, told(whole, i), told(parts, i));
         return Err(format!("split at {depth}, a frame leaves\n{whole}\nand its parts\n{parts}"));
     }
-    let mut names = Vec::new();
+    let mut names = vec![(bits_name(split.stage.display.bits()), 1)];
     let active = split.stage.display.active();
     for (side, low, high) in [("under", 0, split.depth), ("over", split.depth, 8)] {
         let mut after = split.stage.clone();
@@ -245,6 +266,7 @@ fn neighbours_that_share_no_pixel_exchange_depths() {
         ("something over both", 300),
         ("nothing over them", 300),
     ];
+    let least = [&EITHER[..], &least].concat();
     try_all(CASES, &least, |seed| exchange(&mut |inputs| host.painted(&inputs.call()), seed));
 }
 
@@ -270,7 +292,7 @@ fn nothing_counts_under_an_opaque_pixel() {
         ("opaque pixels", 20_000),
         ("over other bytes", 20_000),
     ];
-    let least = [&WAYS[..], &own].concat();
+    let least = [&EITHER[..], &WAYS, &own].concat();
     try_all(CASES, &least, |seed| opaque(&mut |inputs| host.painted(&inputs.call()), seed));
 }
 
@@ -283,7 +305,7 @@ fn a_clear_layer_may_be_switched_off() {
         ("no picture of its own", 400),
         ("pixels that would be seen", 20_000),
     ];
-    let least = [&WAYS[..], &own].concat();
+    let least = [&EITHER[..], &WAYS, &own].concat();
     try_all(CASES, &least, |seed| invisible(&mut |inputs| host.painted(&inputs.call()), seed));
 }
 
@@ -297,12 +319,22 @@ fn channels_lie_between_what_covers_them() {
         ("channels at the greatest", 20_000),
         ("channels amid", 100_000),
     ];
+    let least = [&EITHER[..], &least].concat();
     try_all(CASES, &least, |seed| between(&mut |inputs| host.painted(&inputs.call()), seed));
+}
+
+#[test]
+fn a_value_is_a_colour_further_on() {
+    let mut host = Host::start();
+    let least = [("value 1", 300), ("value 2", 300), ("value 3", 300), ("pixels of text", 20_000)];
+    try_all(CASES, &least, |seed| one_value(&mut |inputs| host.painted(&inputs.call()), seed));
 }
 
 #[test]
 fn a_split_painting_is_one() {
     let least = [
+        ("with one bit", 50),
+        ("with two bits", 50),
         ("layers under", 100),
         ("layers over", 100),
         ("END missed under", 15),
@@ -328,8 +360,20 @@ fn wrong(inputs: &Inputs, rule: fn(u32, u32, u32) -> u32, wide: usize) -> Vec<u8
     out
 }
 
+/// What this display paints with every glyph of two bits read from the right.
+fn mirrored(inputs: &Inputs) -> Vec<u8> {
+    let turned = |[a, b, c, d, e, f, g, h]: [u8; 8]| [h, g, f, e, d, c, b, a];
+    let mut case = inputs.call();
+    if inputs.bits == Bits::Two {
+        case.tables = with_lines(inputs.lent_tables(), Bits::Two, turned);
+    }
+    let HostCase { image, frame, tables, pictures, mut output } = case;
+    host_frame(&image, frame, &tables, &pictures, &mut output);
+    output
+}
+
 /// The laws themselves, on displays that are known to be wrong: layers that run over their right
-/// edge, blends that divide by 256, and bands that set no error bits.
+/// edge, blends that divide by 256, letters from the right, and bands that set no error bits.
 #[test]
 fn impostors_are_caught() {
     let run_over = &mut |inputs: &Inputs| Ok(wrong(inputs, blend, 2));
@@ -343,6 +387,7 @@ fn impostors_are_caught() {
     assert!((0..50).any(|seed| opaque(thin, seed).is_err()));
     assert!((0..50).any(|seed| invisible(dim, seed).is_err()));
     assert!((0..50).any(|seed| between(dim, seed).is_err()));
+    assert!((0..50).any(|seed| one_value(&mut |inputs| Ok(mirrored(inputs)), seed).is_err()));
     let silent = |script: &[u8]| {
         let printed = String::from_utf8(print_script(script)).expect("letters and digits");
         let line = |line: &str| match line.strip_prefix("B 00 00000000 ") {

@@ -8,11 +8,11 @@ use second::answers::DONE;
 use second::beside::{try_all, with_fault, Calls, Doors, Tried};
 use second::cases::{end_name, gen_run, item_len, RunCase};
 use second::doors::*;
-use second::state::{ERRORS_AT, STATE_LEN};
-use second::tables::Kind;
+use second::state::{read_state, ERRORS_AT, STATE_LEN};
+use second::tables::{Bits, Kind};
 use std::cell::RefCell;
 
-const CASES: u64 = 300;
+const CASES: u64 = 400;
 
 /// What a call answers, with its count, and leaves.
 struct Left {
@@ -121,9 +121,13 @@ fn laws(calls: Calls, seed: u64) -> Tried {
     let items = case.run.len() / item_len(case.door);
     let mut names = vec![format!("{}, {}", end_name(items, whole.done), whole.answer)];
     names.push(parts.into());
+    let bits = read_state(&case.state).expect("it is whole").bits();
     let so = [
+        ("with one bit", bits == Bits::One),
+        ("with two bits", bits == Bits::Two),
         ("of one item", items == 1),
-        ("of 768 items", whole.done as usize == Kind::Font.end()),
+        ("of 768 items", whole.done as usize == Kind::Font.end(Bits::One)),
+        ("of 1,536 items", whole.done as usize == Kind::Font.end(Bits::Two)),
         ("with bytes over", items * item_len(case.door) < case.run.len()),
     ];
     names.extend(so.iter().filter(|(_, is_so)| *is_so).map(|(name, _)| name.to_string()));
@@ -148,6 +152,9 @@ fn a_run_is_its_single_calls_and_its_parts() {
         ("PutRun with an empty part", 30),
         ("PutRun of one item", 12),
         ("PutRun of 768 items", 2),
+        ("PutRun of 1,536 items", 2),
+        ("PutRun with one bit", 60),
+        ("PutRun with two bits", 60),
         ("WriteRun empty, 0", 15),
         ("WriteRun whole, 0", 25),
         ("WriteRun broken at the first, 1", 10),
@@ -159,6 +166,8 @@ fn a_run_is_its_single_calls_and_its_parts() {
         ("WriteRun with an empty part", 30),
         ("WriteRun of one item", 15),
         ("WriteRun with bytes over", 60),
+        ("WriteRun with one bit", 60),
+        ("WriteRun with two bits", 60),
     ];
     try_all(CASES, &least, |seed| laws(&|steps| doors.borrow_mut().row(steps), seed));
 }

@@ -27,6 +27,9 @@ returns-2 c =
     host-refused _ _ _ _ _ (c .before .before .before .before .if1 .left) _ (c .before .refusal-of .ensures
     ∙ ap checkOf (c .before .before .before .words-at .ensures)) (c .if2 .taken)
 
+profile-for-requires : tie.Need-profile-for-requires
+profile-for-requires c κs = search needs
+
 frame-requires : tie.Need-frame-requires
 frame-requires c κs = search needs
 
@@ -38,12 +41,14 @@ same-length c = search needs
 
 returns-3 : tie.Need-returns-3
 returns-3 c =
-    let w = c .before .before .before .before .before .before .before .before .before .words-at .ensures in
+    let w = c .before .before .before .before .before .before .before .before .before .before .words-at .ensures in
+    let p = c .before .before .before .before .before .before .profile-for .ensures in
     host-painted _ _ _ _ _
-    (c .before .before .before .before .before .before .before .before .before .before .if1 .left) _ _ _
-    (c .before .before .before .before .before .before .before .refusal-of .ensures ∙ ap checkOf w)
-    (c .before .before .before .before .before .before .if2 .left) _
-    (rw w at (c .before .before .before .frame .ensures .0)) (rw w at (c .before .before .before .frame .ensures .1))
+    (c .before .before .before .before .before .before .before .before .before .before .before .if1 .left) _ _ _
+    (c .before .before .before .before .before .before .before .before .refusal-of .ensures ∙ ap checkOf w)
+    (c .before .before .before .before .before .before .before .if2 .left) _
+    (rw (w, p) at (c .before .before .before .frame .ensures .0))
+    (rw (w, p) at (c .before .before .before .frame .ensures .1))
 
 pub spoonwing-frame-spec : {M : Type 1} → statement M
 spoonwing-frame-spec =
@@ -55,6 +60,7 @@ spoonwing-frame-spec =
     refusal-of-requires
     cast-result-2
     returns-2
+    profile-for-requires
     frame-requires
     cast-result-3
     same-length

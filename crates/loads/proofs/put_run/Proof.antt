@@ -13,7 +13,7 @@ nothing-requires c κs = search needs
 
 returns : tie.Need-returns
 returns c =
-    let e = load-empty _ _ _ _ _ (c .before .if1 .taken) in
+    let e = load-empty _ _ _ _ _ _ (c .before .if1 .taken) in
     (c .nothing .ensures ∙ e .0, e .1)
 
 refusal-of-requires : tie.Need-refusal-of-requires
@@ -24,7 +24,7 @@ nothing-requires-2 c κs = search needs
 
 returns-2 : tie.Need-returns-2
 returns-2 c =
-    let e = load-refused _ _ _ _ _ (c .before .before .before .if1 .left) _ (c .before .before .refusal-of .ensures)
+    let e = load-refused _ _ _ _ _ _ (c .before .before .before .if1 .left) _ (c .before .before .refusal-of .ensures)
     (c .before .if2 .taken) in
     (c .nothing2 .ensures ∙ e .0, e .1)
 
@@ -42,7 +42,7 @@ store-requires c κs =
     let n = length-take-le (c .before .before .fitting .result) run
     (omega (arith, c .before .before .fitting .ensures .0)) in
     let passes = sym (c .before .before .before .before .refusal-of .ensures) ∙ c .before .before .before .if2 .left in
-    (passes-long _ _ _ _ passes, omega (arith, n, c .before .before .fitting .ensures .0))
+    (c .before .before .before .before .before .before .before .before .pre, passes-long _ _ _ _ _ passes, omega (arith, n, c .before .before .fitting .ensures .0))
 
 cast-next : tie.Need-cast-next
 cast-next c = search needs
@@ -55,7 +55,7 @@ same-length c = search needs
 
 returns-3 : tie.Need-returns-3
 returns-3 c =
-    load-all _ _ _ _ _ (c .before .before .before .before .before .before .before .before .before .if1 .left) _ _ _
+    load-all _ _ _ _ _ _ (c .before .before .before .before .before .before .before .before .before .if1 .left) _ _ _
     (c .before .before .before .before .before .before .before .before .refusal-of .ensures)
     (c .before .before .before .before .before .before .before .if2 .left)
     (c .before .before .before .before .before .before .fitting .ensures .0)
@@ -69,7 +69,7 @@ same-length-2 c = search needs
 
 returns-4 : tie.Need-returns-4
 returns-4 c =
-    load-full _ _ _ _ _
+    load-full _ _ _ _ _ _
     (c .before .before .before .before .before .before .before .before .before .before .if1 .left) _ _ _
     (c .before .before .before .before .before .before .before .before .before .refusal-of .ensures)
     (c .before .before .before .before .before .before .before .before .if2 .left)

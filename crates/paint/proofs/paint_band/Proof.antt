@@ -8,6 +8,10 @@ use denote.Ref.{now}
 use borrow.Author.Tests.{not-true, not-false}
 use Rattle.lists.proofs.Tab.{length-each}
 use Rattle.frames.specs.Band.{errorsOf, bandOf}
+use Rattle.profiles.specs.Profile.{bitsOf}
+use Rattle.profiles.proofs.ProfileLaws.{bits-few}
+use Rattle.words.specs.Order.{bandLayers}
+use Rattle.plan.specs.Engine.Plan.{Planned}
 use Rattle.plan.proofs.PlanLaws.{planned-numbered}
 use Rattle.scanline.proofs.FitLaws.{band-ready}
 use Rattle.paint.proofs.GroundLaws.{ground-all, laid-band}
@@ -38,16 +42,32 @@ returns c =
           ∙ ground-all (now (a .args .w)) (a .args .fresh) (now (a .args .out)) (a .pre .1) ∙ off .1,
     )
 
+bits-of-requires : tie.Need-bits-of-requires
+bits-of-requires c κs = search needs
+
 plan-of-requires : tie.Need-plan-of-requires
-plan-of-requires c κs = c .before .before .before .before .before .pre .0 .tables
+plan-of-requires c κs =
+    let a = c .before .before .before .before .before .before in
+    rw (c .bits-of .ensures .0) (bits-few (a .args .profile), a .pre .0 .tables)
+
+-- the plan, with the profile's bits
+planned : (c : tie.After-plan-of)
+    → Planned (bitsOf (c .before .before .before .before .before .before .before .args .profile))
+    (now (c .before .before .before .before .before .before .before .args .w))
+    (c .before .before .before .before .before .before .before .args .frame)
+    (now (c .before .before .before .before .before .before .before .args .tables))
+    (bandLayers (now (c .before .before .before .before .before .before .before .args .w))
+    (c .before .before .before .before .before .before .before .args .low)
+    (c .before .before .before .before .before .before .before .args .high)) (c .plan-of .result)
+planned c = rw (c .before .bits-of .ensures .0) at (c .plan-of .ensures)
 
 paint-rows-requires : tie.Need-paint-rows-requires
 paint-rows-requires c κs =
-    let a = c .before .before .before .before .before .before .before in
-    ((a .pre .1, a .pre .2), band-ready _ _ _ _ (a .pre .0) (c .before .plan-of .ensures))
+    let a = c .before .before .before .before .before .before .before .before in
+    ((a .pre .1, a .pre .2), band-ready _ _ _ _ (a .pre .0) (planned (c .before)))
 
 marks-of-requires : tie.Need-marks-of-requires
-marks-of-requires c κs = planned-numbered _ _ _ _ _ _ (c .before .before .before .before .plan-of .ensures)
+marks-of-requires c κs = planned-numbered _ _ _ _ _ _ _ (planned (c .before .before .before .before))
 
 same-length-2 : tie.Need-same-length-2
 same-length-2 c = c .before .before .before .paint-rows .kept .0
@@ -55,10 +75,10 @@ same-length-2 c = c .before .before .before .paint-rows .kept .0
 returns-2 : tie.Need-returns-2
 unfolding errorsOf bandOf
 returns-2 c =
-    let a = c .before .before .before .before .before .before .before .before .before .before .before in
-    let t = sym (c .before .before .before .before .before .before .before .is-shown .ensures)
-    ∙ not-false _ (c .before .before .before .before .before .before .if1 .left) in
-    let p = c .before .before .before .before .before .plan-of .ensures in
+    let a = c .before .before .before .before .before .before .before .before .before .before .before .before in
+    let t = sym (c .before .before .before .before .before .before .before .before .is-shown .ensures)
+    ∙ not-false _ (c .before .before .before .before .before .before .before .if1 .left) in
+    let p = planned (c .before .before .before .before .before) in
     let rows = c .before .before .before .paint-rows .ensures .laid _ _ _ (refl, (refl, refl))
     (record { order = a .pre .3; end = a .pre .4; planned = p }) in (
       rw t (c .marks-of .ensures ∙ marks-done _ _ _ _ _ (a .pre .3) (a .pre .4) p),
@@ -74,6 +94,7 @@ paint-band-spec =
     lay-ground-requires
     same-length
     returns
+    bits-of-requires
     plan-of-requires
     paint-rows-requires
     marks-of-requires

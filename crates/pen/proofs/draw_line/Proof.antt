@@ -15,11 +15,11 @@ use Rattle.pen.proofs.draw_line.Statement.{statement}
 use Rattle.pen.proofs.draw_line.Tie as tie
 
 abbrev Inv-loop : tie.InvT-loop
-Inv-loop line₀ ins strings font count v k₀ line k =
-    (k ≤ count) × (count ≤ instructions) × (line ≡ tab (length line₀) (drawnTo ins strings font k v))
+Inv-loop line₀ bits ins strings font count v k₀ line k =
+    (k ≤ count) × (count ≤ instructions) × (line ≡ tab (length line₀) (drawnTo bits ins strings font k v))
 
 abbrev μ-loop : tie.MeasureT-loop
-μ-loop line₀ ins strings font count v k₀ line k = count - k
+μ-loop line₀ bits ins strings font count v k₀ line k = count - k
 
 fill-run-requires : tie.Need-fill-run-requires Inv-loop μ-loop
 fill-run-requires c κs = search needs
@@ -52,7 +52,7 @@ same-length c =
 
 returns : tie.Need-returns Inv-loop μ-loop
 returns c =
-    line-last _ _ _ _ _ (c .before .loop .k) (c .before .loop .inv .2)
+    line-last _ _ _ _ _ _ (c .before .loop .k) (c .before .loop .inv .2)
     (ap length (c .before .before .before .before .fill-run .ensures) ∙ length-each _ _) (omega arith)
 
 pub draw-line-spec : {M : Type 1} → statement M

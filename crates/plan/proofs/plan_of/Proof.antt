@@ -18,11 +18,11 @@ use Rattle.plan.proofs.plan_of.Statement.{statement}
 use Rattle.plan.proofs.plan_of.Tie as tie
 
 abbrev Inv-loop : tie.InvT-loop
-Inv-loop w frame tables low high starts layers count plan₀ i₀ plan i =
-    (i ≤ count) × Planned w frame tables (bandTo w frame tables low high i) plan
+Inv-loop bits w frame tables low high starts layers count plan₀ i₀ plan i =
+    (i ≤ count) × Planned bits w frame tables (bandTo bits w frame tables low high i) plan
 
 abbrev μ-loop : tie.MeasureT-loop
-μ-loop w frame tables low high starts layers count plan₀ i₀ plan i = count - i
+μ-loop bits w frame tables low high starts layers count plan₀ i₀ plan i = count - i
 
 order-of-requires : tie.Need-order-of-requires Inv-loop μ-loop
 order-of-requires c κs = search needs
@@ -34,7 +34,7 @@ empty-requires : tie.Need-empty-requires Inv-loop μ-loop
 empty-requires c κs = search needs
 
 loop-holds : tie.Need-loop-holds Inv-loop μ-loop
-loop-holds c = (search needs, plan-none _ _ _ _ _ _ (c .empty .ensures))
+loop-holds c = (search needs, plan-none _ _ _ _ _ _ _ (c .empty .ensures))
 
 few : (c : tie.In-loop Inv-loop μ-loop)
     → c .before .loop .i < length
@@ -72,10 +72,11 @@ array-read-with-layer c =
 
 with-layer-requires : tie.Need-with-layer-requires Inv-loop μ-loop
 with-layer-requires c κs = (
+  c .before .before .before .before .before .before .before .before .pre .0,
   rw (layer-at c) (orderOf-enabled _ _ (few c) .0),
-  c .before .before .before .before .before .before .before .before .pre,
+  c .before .before .before .before .before .before .before .before .pre .1,
   ap (λ (p : Pictures). p .starts) (c .before .before .before .before .before .pictures-of .ensures),
-  plan-room _ _ _ _ _ _ _ (few c) (c .before .loop .inv .1),
+  plan-room _ _ _ _ _ _ _ _ (few c) (c .before .loop .inv .1),
 )
 
 add-i : tie.Need-add-i Inv-loop μ-loop
@@ -87,7 +88,7 @@ loop-less c = search needs
 loop-again : tie.Need-loop-again Inv-loop μ-loop
 loop-again c = (
   search needs,
-  plan-next _ _ _ _ _ _ _ _ _ (few (c .before)) (layer-at (c .before))
+  plan-next _ _ _ _ _ _ _ _ _ _ (few (c .before)) (layer-at (c .before))
       (c .before .before .loop .inv .1) (c .with-layer .ensures),
 )
 
@@ -95,7 +96,7 @@ returns : tie.Need-returns Inv-loop μ-loop
 returns c =
     let e = ap (λ (o : Order). o .count) (c .before .before .before .before .before .before .order-of .ensures) in
     let a = c .before .before .before .before .before .before .before .before .args in
-    plan-all (now (a .w)) (a .frame) (now (a .tables)) _ _ (c .before .loop .i) _ (omega arith)
+    plan-all (a .bits) (now (a .w)) (a .frame) (now (a .tables)) _ _ (c .before .loop .i) _ (omega arith)
     (c .before .loop .inv .1)
 
 pub plan-of-spec : {M : Type 1} → statement M

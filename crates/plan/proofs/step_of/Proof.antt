@@ -35,6 +35,9 @@ least-requires-2 c κs = search needs
 fade-requires : tie.Need-fade-requires
 fade-requires c κs = search needs
 
+cast-glyph-bits : tie.Need-cast-glyph-bits
+cast-glyph-bits c = search needs
+
 cast-controller : tie.Need-cast-controller
 cast-controller c = search needs
 
@@ -71,7 +74,8 @@ returns c =
       wide = rw (least .least .ensures, l, w)
           at (c .before .before .before .before .before .before .before .least2 .ensures);
       alpha = rw l at (c .before .before .before .before .before .before .fade .ensures);
-      start = least .before .before .before .before .before .pre .2;
+      start = least .before .before .before .before .before .pre .3;
+      glyph = refl;
       list = c .before .before .before .before .before .active-at .ensures .0;
       strings = c .before .before .before .active-at3 .ensures .0;
       font = c .before .before .active-at4 .ensures .0;
@@ -92,6 +96,7 @@ step-of-spec =
     sub-least
     least-requires-2
     fade-requires
+    cast-glyph-bits
     cast-controller
     active-at-requires
     active-at-requires-2

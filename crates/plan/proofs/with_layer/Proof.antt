@@ -35,25 +35,26 @@ step-of-requires : tie.Need-step-of-requires
 step-of-requires c κs = (
   c .before .before .before .before .pre .0,
   c .before .before .before .before .pre .1,
-  rw (c .before .before .before .before .pre .2) (getD-tab 8 _ _ (c .before .before .before .before .pre .0)),
+  c .before .before .before .before .pre .2,
+  rw (c .before .before .before .before .pre .3) (getD-tab 8 _ _ (c .before .before .before .before .pre .1)),
 )
 
-mul-t19 : tie.Need-mul-t19
-mul-t19 c = omega (arith, c .before .before .before .before .before .pre .3)
+mul-t20 : tie.Need-mul-t20
+mul-t20 c = omega (arith, c .before .before .before .before .before .pre .4)
 
 element-set-from-plan : tie.Need-element-set-from-plan
-element-set-from-plan c = c .before .before .before .before .before .pre .3
+element-set-from-plan c = c .before .before .before .before .before .pre .4
 
 add-plan : tie.Need-add-plan
-add-plan c = omega (arith, c .before .before .before .before .before .pre .3)
+add-plan c = omega (arith, c .before .before .before .before .before .pre .4)
 
 returns : tie.Need-returns
 returns c =
-    grown-taken _ _ _ _ _ _ _ _ (sym (asked (c .before .before)) ∙ c .before .if1 .taken)
-    (c .before .before .before .before .before .pre .3) (c .step-of .ensures)
+    grown-taken _ _ _ _ _ _ _ _ _ (sym (asked (c .before .before)) ∙ c .before .if1 .taken)
+    (c .before .before .before .before .before .pre .4) (c .step-of .ensures)
 
 returns-2 : tie.Need-returns-2
-returns-2 c = grown-left _ _ _ _ _ _ _ (sym (asked (c .before)) ∙ c .if1 .left)
+returns-2 c = grown-left _ _ _ _ _ _ _ _ (sym (asked (c .before)) ∙ c .if1 .left)
 
 pub with-layer-spec : {M : Type 1} → statement M
 with-layer-spec =
@@ -64,7 +65,7 @@ with-layer-spec =
     mul-step-of
     array-read-step-of
     step-of-requires
-    mul-t19
+    mul-t20
     element-set-from-plan
     add-plan
     returns

@@ -7,6 +7,7 @@ use mathlib.Core.List.{List, [], _∷_, _++_}
 use lib.ListN.{length, getD, take, drop}
 use lib.Bits.{bitOr}
 use Rattle.lists.specs.Choice.{pick, choose, both}
+use Rattle.profiles.specs.Profile.{bitsOf}
 use Rattle.words.specs.declared.fields.Layer.{Layer}
 use Rattle.words.specs.Fields.{widthOf, layerOf}
 use Rattle.words.specs.Order.{within, bandLayers}
@@ -32,19 +33,20 @@ leftEnd W l = min (l .x) W
 abbrev pub wideOf : ℕ → Layer → ℕ
 wideOf W l = min (l .width) (W - leftEnd W l)
 
--- the step of layer n
-pub record Made (w : List ℕ) (frame : ℕ) (tables : List ℕ) (n : ℕ) (t : Step) : Type 0 where
+-- the step of layer n, where a glyph's pixel has so many bits
+pub record Made (bits : ℕ) (w : List ℕ) (frame : ℕ) (tables : List ℕ) (n : ℕ) (t : Step) : Type 0 where
   pub number : t .number ≡ n
   pub layer : t .layer ≡ layerOf w n
   pub left : t .left ≡ leftEnd (widthOf w) (layerOf w n)
   pub wide : t .wide ≡ wideOf (widthOf w) (layerOf w n)
   pub alpha : t .alpha ≡ fadedOf frame (layerOf w n)
   pub start : t .start ≡ pictureStart w n
-  pub list : t .list ≡ activeAt w n listKind
-  pub strings : t .strings ≡ activeAt w n stringsKind
-  pub font : t .font ≡ activeAt w n fontKind
-  pub end : t .end ≡ listEnd (bankBytes w tables n listKind)
-  pub palette : PaletteOf (t .palette) (bankBytes w tables n coloursKind)
+  pub glyph : t .bits ≡ bits
+  pub list : t .list ≡ activeAt bits w n listKind
+  pub strings : t .strings ≡ activeAt bits w n stringsKind
+  pub font : t .font ≡ activeAt bits w n fontKind
+  pub end : t .end ≡ listEnd (bankBytes bits w tables n listKind)
+  pub palette : PaletteOf (t .palette) (bankBytes bits w tables n coloursKind)
 
 -- what stands past the end of an array of steps
 abbrev pub blankStep : Step
@@ -70,6 +72,7 @@ blankStep =
       wide = 0;
       alpha = 0;
       start = 0;
+      bits = 0;
       list = 0;
       strings = 0;
       font = 0;
@@ -78,15 +81,15 @@ blankStep =
     }
 
 -- the plan of the layers l
-pub record Planned (w : List ℕ) (frame : ℕ) (tables l : List ℕ) (p : Plan) : Type 0 where
+pub record Planned (bits : ℕ) (w : List ℕ) (frame : ℕ) (tables l : List ℕ) (p : Plan) : Type 0 where
   pub room : length (p .steps) ≡ 8
   pub count : p .count ≡ length l
-  pub made : (j : ℕ) → j < length l → Made w frame tables (getD l j 0) (getD (p .steps) j blankStep)
+  pub made : (j : ℕ) → j < length l → Made bits w frame tables (getD l j 0) (getD (p .steps) j blankStep)
 
 -- the plan r is p with layer n behind it, where n is a layer of the band
-pub record Grown (w : List ℕ) (frame : ℕ) (tables : List ℕ) (a b n : ℕ) (p r : Plan) : Type 0 where
-  pub grown : (l : List ℕ) → Planned w frame tables l p
-      → Planned w frame tables (l ++ choose (within a b (layerOf w n)) (n ∷ []) []) r
+pub record Grown (bits : ℕ) (w : List ℕ) (frame : ℕ) (tables : List ℕ) (a b n : ℕ) (p r : Plan) : Type 0 where
+  pub grown : (l : List ℕ) → Planned bits w frame tables l p
+      → Planned bits w frame tables (l ++ choose (within a b (layerOf w n)) (n ∷ []) []) r
 
 -- a plan with no layer
 pub record Empty (p : Plan) : Type 0 where
@@ -102,11 +105,11 @@ pub record Numbered (p : Plan) : Type 0 where
 
 -- the step is that of its layer there
 abbrev pub OfLayer : Scene → Step → Type 0
-OfLayer s t = Made (s .words) (s .frame) (s .tables) (t .number) t
+OfLayer s t = Made (bitsOf (s .profile)) (s .words) (s .frame) (s .tables) (t .number) t
 
 -- the plan is that of the layers l
 abbrev pub OfLayers : Scene → List ℕ → Plan → Type 0
-OfLayers s l p = Planned (s .words) (s .frame) (s .tables) l p
+OfLayers s l p = Planned (bitsOf (s .profile)) (s .words) (s .frame) (s .tables) l p
 
 -- the step is that of the first of the layers l
 pub record OfFirst (s : Scene) (l : List ℕ) (t : Step) : Type 0 where

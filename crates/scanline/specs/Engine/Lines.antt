@@ -11,6 +11,7 @@ use Rattle.lists.specs.Choice.{pick, both}
 use Rattle.lists.specs.Steps.{through}
 use Rattle.lists.specs.Tab.{tab, each}
 use Rattle.mix.specs.Pixel.{pixelLen, alphaPlace}
+use Rattle.profiles.specs.Profile.{bitsOf}
 use Rattle.words.specs.declared.fields.Ground.{Ground}
 use Rattle.words.specs.Fields.{widthOf}
 use Rattle.words.specs.Pictures.{picturesLen}
@@ -28,14 +29,17 @@ use Rattle.plan.specs.Engine.Plan.{blankStep, partAt, OfLayer, OfLayers, OfFirs
 
 -- tables and pictures of the right lengths
 pub record Lent (s : Scene) : Type 0 where
-  pub tables : length (s .tables) ≡ tablesLen
+  pub tables : length (s .tables) ≡ tablesLen (bitsOf (s .profile))
   pub pictures : length (s .pictures) ≡ picturesLen (s .words)
 
--- the banks that a step draws from lie in the tables, and its list ends where it says
+-- a pixel of a glyph has one bit or two; the banks that a step draws from lie in the tables, and its list ends where it
+-- says
 pub record Banked (tables : List ℕ) (t : Step) : Type 0 where
+  pub some : 0 < t .bits
+  pub few : t .bits ≤ 2
   pub list : t .list + listLen ≤ length tables
   pub strings : t .strings + stringsLen ≤ length tables
-  pub font : t .font + fontLen ≤ length tables
+  pub font : t .font + fontLen (t .bits) ≤ length tables
   pub count : t .end .count ≡ countOf (partAt tables (t .list) listLen)
 
 -- the part of a line that a step paints lies on it, where the line has so many bytes
@@ -86,8 +90,8 @@ drawnRow tables t v pixels =
     tab (pixelLen * pixels)
     (rows.colourByte
     (tab pixels
-    (indexAt (partAt tables (t .list) listLen) (partAt tables (t .strings) stringsLen)
-    (partAt tables (t .font) fontLen) v))
+    (indexAt (t .bits) (partAt tables (t .list) listLen) (partAt tables (t .strings) stringsLen)
+    (partAt tables (t .font) (fontLen (t .bits))) v))
     (t .palette))
 
 -- byte i of line y with layer n over it

@@ -14,7 +14,7 @@ bank-at-requires c κs = search needs
 returns : tie.Need-returns
 returns c =
     let e = rw (c .before .active-bank .ensures) at (c .bank-at .ensures) in
-    (e, rw e (bank-room _ _ _ (omega arith) (omega arith)))
+    (e, rw e (bank-room _ _ _ _ (omega arith) (omega arith)))
 
 pub active-at-spec : {M : Type 1} → statement M
 active-at-spec = tie.close (tie.spec active-bank-requires bank-at-requires returns)

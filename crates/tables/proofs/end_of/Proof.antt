@@ -1,26 +1,16 @@
--- `tables::end_of` meets its contract: the table of lengths computes to `kindLen`.
--- Assumes nothing.
+-- `tables::end_of` meets its contract: the length of the selection's kind. Assumes nothing.
 use borrow.Author.Needs.{needs}
-use Rattle.tables.specs.Geometry.{kindLen}
 use Rattle.tables.proofs.end_of.Statement.{statement}
 use Rattle.tables.proofs.end_of.Tie as tie
 
 kind-of-requires : tie.Need-kind-of-requires
 kind-of-requires c κs = search needs
 
-cast-result : tie.Need-cast-result
-cast-result c = search needs
-
-mul-result : tie.Need-mul-result
-mul-result c = search needs
-
-array-read-result : tie.Need-array-read-result
-array-read-result c = search needs
+kind-len-requires : tie.Need-kind-len-requires
+kind-len-requires c κs = search needs
 
 returns : tie.Need-returns
-unfolding kindLen
-returns c = rw (c .kind-of .ensures)
+returns c = rw (c .kind-len .ensures, c .before .kind-of .ensures)
 
 pub end-of-spec : {M : Type 1} → statement M
-end-of-spec =
-    tie.close (tie.spec kind-of-requires cast-result mul-result array-read-result returns)
+end-of-spec = tie.close (tie.spec kind-of-requires kind-len-requires returns)

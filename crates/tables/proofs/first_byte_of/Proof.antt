@@ -24,7 +24,7 @@ returns c =
       c .before .before .bank-of .ensures,
       c .before .before .before .controller-of .ensures,
     ) at (c .bank-at .ensures) in
-    (e, rw e (bank-room _ _ _ (omega arith) (omega arith)))
+    (e, rw e (bank-room _ _ _ _ (omega arith) (omega arith)))
 
 pub first-byte-of-spec : {M : Type 1} → statement M
 first-byte-of-spec =

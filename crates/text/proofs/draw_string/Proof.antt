@@ -13,19 +13,19 @@ use Rattle.lists.specs.Zero.{zeroFrom}
 use Rattle.lists.proofs.Tab.{length-each}
 use Rattle.lists.proofs.Zero.{zero-passes}
 use Rattle.tables.specs.Geometry.{stringLen}
-use Rattle.draw.specs.Text.{glyphColumns, character, charactersOf, rowAfter, stringPixel}
+use Rattle.draw.specs.Text.{glyphColumns, character, charactersOf, rowAfter, stringInk}
 use Rattle.text.proofs.LineLaws.{row-line-none, string-more, string-past, string-stops, string-ends}
 use Rattle.text.proofs.draw_string.Statement.{statement}
 use Rattle.text.proofs.draw_string.Tie as tie
 
 abbrev Inv-loop : tie.InvT-loop
-Inv-loop line₀ strings font n row z x colour i₀ at₀ line i at =
+Inv-loop line₀ bits strings font n row z x colour i₀ at₀ line i at =
     (i ≤ stringLen) × (at ≤ x + 64 * i) × (at ≡ x + glyphColumns * i * z)
     × (zeroFrom (stringLen - i) (character strings n) i ≡ charactersOf strings n)
-    × (line ≡ each (rowAfter (stringPixel strings font n row) (glyphColumns * i) z x colour) line₀)
+    × (line ≡ each (rowAfter (stringInk bits strings font n row colour) (glyphColumns * i) z x) line₀)
 
 abbrev μ-loop : tie.MeasureT-loop
-μ-loop line₀ strings font n row z x colour i₀ at₀ line i at = stringLen - i
+μ-loop line₀ bits strings font n row z x colour i₀ at₀ line i at = stringLen - i
 
 loop-holds : tie.Need-loop-holds Inv-loop μ-loop
 unfolding charactersOf
@@ -56,8 +56,8 @@ returns-2 c =
 glyph-row-requires : tie.Need-glyph-row-requires Inv-loop μ-loop
 glyph-row-requires c κs = search needs
 
-draw-cell-requires : tie.Need-draw-cell-requires Inv-loop μ-loop
-draw-cell-requires c κs = search needs
+draw-glyph-requires : tie.Need-draw-glyph-requires Inv-loop μ-loop
+draw-glyph-requires c κs = search needs
 
 mul-at : tie.Need-mul-at Inv-loop μ-loop
 mul-at c = search needs
@@ -108,7 +108,7 @@ draw-string-spec =
     same-length-2
     returns-2
     glyph-row-requires
-    draw-cell-requires
+    draw-glyph-requires
     mul-at
     add-at
     add-i

@@ -40,12 +40,9 @@ word-of-requires-4 c κs = search needs
 div-draw-string : tie.Need-div-draw-string
 div-draw-string c = search needs
 
-cast-draw-string : tie.Need-cast-draw-string
-cast-draw-string c = search needs
-
 draw-string-requires : tie.Need-draw-string-requires
 draw-string-requires c κs =
-    (search needs, (omega arith, search (row-lt, needs), omega arith, omega arith, omega arith))
+    (search needs, (omega arith, search (row-lt, needs), omega arith, omega arith, omega arith, omega arith))
 
 same-length : tie.Need-same-length
 same-length c = search needs
@@ -68,7 +65,6 @@ draw-text-spec =
     word-of-requires-3
     word-of-requires-4
     div-draw-string
-    cast-draw-string
     draw-string-requires
     same-length
     returns-4)

@@ -2,14 +2,14 @@
 //! and fonts that show something on a layer of a given size.
 
 use crate::rng::Rng;
-use crate::tables::{Kind, COLOURS, GLYPHS, INSTRUCTIONS, STRINGS, STRING_LEN};
+use crate::tables::{Bits, Kind, COLOURS, INSTRUCTIONS, STRINGS, STRING_LEN};
 
-pub fn bank(rng: &mut Rng, kind: Kind, width: i64, height: i64) -> Vec<u8> {
+pub fn bank(rng: &mut Rng, kind: Kind, bits: Bits, width: i64, height: i64) -> Vec<u8> {
     match kind {
         Kind::Instruction => instructions(rng, width, height),
         Kind::Colour => (0..COLOURS).flat_map(|_| colour(rng)).collect(),
         Kind::Text => (0..STRINGS).flat_map(|_| string(rng)).collect(),
-        Kind::Font => rng.bytes(8 * GLYPHS),
+        Kind::Font => rng.bytes(kind.end(bits)),
     }
 }
 
@@ -82,6 +82,12 @@ fn ends(rng: &mut Rng, size: i64) -> (u32, u32) {
 fn colour(rng: &mut Rng) -> [u8; 4] {
     let alpha = if rng.percent(30) { 255 } else { rng.byte() };
     [rng.byte(), rng.byte(), rng.byte(), alpha]
+}
+
+/// An opaque colour for each index, of which no two are alike.
+pub fn plain_colour(index: usize) -> [u8; 4] {
+    let i = index as u8;
+    [9 + 16 * i, 250 - 15 * i, 7 * i, 255]
 }
 
 /// Thirty-two bytes: a string with or without its zero byte, and letters after it that must not be

@@ -2,24 +2,27 @@
 
 use crate::answers::DONE;
 use crate::cases::scene::{controller, nudge, scene, spoil, Room};
-use crate::cases::{banks, runs};
+use crate::cases::{banks, letter_script, runs};
 use crate::display::{Display, ITEM_LEN};
 use crate::rng::Rng;
 use crate::script::*;
-use crate::tables::{Bank, Kind, TABLES_LEN};
+use crate::tables::{Bank, Bits, Kind, COLOURS};
 use crate::words::{layer_word, Words, WORDS};
 
 /// The pixels that frame layers may bring together.
 const FRAME_PIXELS: i64 = 900;
 
+/// The first word of an instruction that ends a list.
+const END: [u8; 4] = [0; 4];
+
 /// The scripts that the tests compare unless told otherwise, of the seeds from 0 on.
-pub const SCRIPTS: u64 = 20;
+pub const SCRIPTS: u64 = 30;
 pub const RECORDS_A_SCRIPT: usize = 1_000;
 /// And the scripts of edges.
 pub const EDGES: u64 = 12;
 
-/// The first seed whose calls are of every kind.
-const GATE_SEED: u64 = 38;
+/// The first seed with which the gate's script has calls of every kind.
+const GATE_SEED: u64 = 76;
 const GATE_RECORDS: usize = 1_500;
 
 /// A script of n records. It is made up of short runs, each going on from what the calls before it
@@ -27,15 +30,21 @@ const GATE_RECORDS: usize = 1_500;
 pub fn gen_calls(seed: u64, n: usize) -> Vec<Call> {
     // Kept apart from the other cases' seeds.
     let mut author = Author::new(seed ^ 0x6361_6C6C);
+    // Every second script begins with the display that is there before the first record.
+    if seed % 2 == 1 {
+        author.call(NEW, 2, 0);
+    }
     while author.calls.len() < n {
         let nothing_active = author.stage.display.active().output_len() == 0;
-        match author.rng.below(60) {
+        match author.rng.below(70) {
             _ if nothing_active && author.rng.percent(50) => author.set_up(),
-            0 => author.begin_anew(),
-            1 => author.unknown(),
-            2..=16 => author.load(),
-            17..=31 => author.set_up(),
-            32..=35 => author.toggle(),
+            0 | 1 => author.begin_anew(),
+            2 => author.unknown(),
+            3..=17 => author.load(),
+            18..=32 => author.set_up(),
+            33..=36 => author.toggle(),
+            37 => author.lend_the_others(),
+            38..=44 => author.paint_text(),
             _ => author.paint(),
         }
     }
@@ -43,9 +52,9 @@ pub fn gen_calls(seed: u64, n: usize) -> Vec<Call> {
     author.calls
 }
 
-/// Calls after which everything is lent as a frame needs it, over an output that holds something,
-/// and a depth at which the painting may be split: between two layers as a rule, at an end at
-/// times.
+/// Calls, the making of a display first, after which everything is lent as a frame needs it, over
+/// an output that holds something, and a depth at which the painting may be split: between two
+/// layers as a rule, at an end at times.
 pub fn gen_split(seed: u64) -> (Vec<Call>, u32) {
     let mut author = Author::new(seed ^ 0x7370_6C69);
     author.make_ready();
@@ -73,12 +82,13 @@ pub fn gen_edges(seed: u64) -> Vec<Call> {
     author.calls
 }
 
-/// The script that the gate runs: all blends, the fades of ten lengths, and calls of every kind.
+/// The script that the gate runs: all blends, the fades of ten lengths, calls of every kind, and
+/// letters of one bit and two.
 pub fn gate_script() -> Vec<Call> {
     let blends = (0..256).map(|alpha| Call { letter: BLENDS, a: alpha, b: 0 });
     let lengths = [0, 1, 2, 3, 4, 255, 256, 32_768, 65_534, 65_535];
     let fades = lengths.map(|length| Call { letter: FADES, a: length, b: 0 });
-    blends.chain(fades).chain(gen_calls(GATE_SEED, GATE_RECORDS)).collect()
+    blends.chain(fades).chain(gen_calls(GATE_SEED, GATE_RECORDS)).chain(letter_script()).collect()
 }
 
 struct Author {
@@ -99,9 +109,13 @@ impl Author {
         answer
     }
 
-    /// A fresh display, to which some bytes are put at times before anything is selected.
+    /// A fresh display, at times more than one after another, to which some bytes are put at times
+    /// before anything is selected.
     fn begin_anew(&mut self) {
-        self.call(NEW, 0, 0);
+        for _ in 0..self.rng.range(1, 3) {
+            let bits = new_bits(&mut self.rng);
+            self.call(NEW, bits, 0);
+        }
         if self.rng.percent(60) {
             let bytes = self.rng.bytes(24);
             self.run_puts(&bytes);
@@ -134,9 +148,25 @@ impl Author {
         }
     }
 
-    /// Has two layers shown, with their words pending too, and lends each buffer as a frame needs
-    /// it.
+    fn lend_tables(&mut self, wrong: i64) {
+        self.lend(0, self.stage.display.bits().tables_len(), wrong);
+    }
+
+    /// Lends the tables of the other number of bits to each call that takes some.
+    fn lend_the_others(&mut self) {
+        self.lend_all();
+        let other = self.stage.display.bits().other();
+        self.call(LEND, 0, other.tables_len() as u32);
+        for (letter, a, b) in [(PUT, 1, 0), (PUT_RUN, 0, 4), (BAND, 0, 8), (FRAME, 0, 0)] {
+            self.call(letter, a, b);
+        }
+    }
+
+    /// Makes a display of either number of bits, has two layers shown, with their words pending
+    /// too, and lends each buffer as a frame needs it.
     fn make_ready(&mut self) {
+        let bits = self.rng.pick(&Bits::ALL);
+        self.call(NEW, bits.number() as u32, 0);
         self.fill_buffer(FILL_TABLES);
         let mut layers = 0;
         while layers < 2 || !self.stage.display.active().display_on() {
@@ -148,7 +178,7 @@ impl Author {
         self.write_missing(&active);
         self.fill_buffer(FILL_PICTURES);
         self.fill_buffer(FILL_OUT);
-        let lengths = [TABLES_LEN as i64, active.pictures_len(), active.output_len()];
+        let lengths = [bits.tables_len() as i64, active.pictures_len(), active.output_len()];
         for (buffer, length) in lengths.into_iter().enumerate() {
             self.call(LEND, buffer as u32, length as u32);
         }
@@ -185,9 +215,10 @@ impl Author {
             Kind::Text,
             Kind::Font,
         ]);
-        let g = controller(&mut self.rng, self.stage.display.active());
-        let layer = self.stage.display.active().layer(g);
-        let bytes = banks::bank(&mut self.rng, kind, layer.width.max(1), layer.height.max(1));
+        let (active, bits) = (self.stage.display.active(), self.stage.display.bits());
+        let g = controller(&mut self.rng, active);
+        let layer = active.layer(g);
+        let bytes = banks::bank(&mut self.rng, kind, bits, layer.width.max(1), layer.height.max(1));
         match self.rng.below(10) {
             0 | 1 => self.fill_buffer(FILL_TABLES),
             2..=4 => self.store_words(kind, g, &bytes),
@@ -211,17 +242,48 @@ impl Author {
         let active = self.stage.display.active().bank(kind, g);
         let bank = Bank { g, kind, b: if self.rng.percent(80) { active } else { 1 - active } };
         let count = if kind == Kind::Instruction { 4 * self.rng.range(1, 5) } else { 16 } as usize;
-        let mut words: Vec<u32> = bytes
-            .chunks(4)
-            .take(count)
-            .map(|word| u32::from_le_bytes(word.try_into().expect("banks are whole words")))
-            .collect();
+        self.store_at(bank, 0, &bytes[..4 * count]);
         if kind == Kind::Instruction && self.rng.percent(80) {
-            words.push(0);
+            self.store_at(bank, 4 * count, &END);
         }
-        for (i, word) in words.into_iter().enumerate() {
-            self.call(TABLE_WORD, (bank.start() + 4 * i) as u32, word);
+    }
+
+    /// Stores whole words in a bank, so many bytes behind its first.
+    fn store_at(&mut self, bank: Bank, place: usize, bytes: &[u8]) {
+        let start = bank.start(self.stage.display.bits()) + place;
+        for (at, word) in (start..).step_by(4).zip(bytes.chunks(4)) {
+            let word = u32::from_le_bytes(word.try_into().expect("whole words"));
+            self.call(TABLE_WORD, at as u32, word);
         }
+    }
+
+    /// A frame with one line of text on the largest layer that is drawn, stored in the banks that
+    /// are shown, as their owner may: its instruction and END, two letters, their glyphs and the
+    /// colours that they can have.
+    fn paint_text(&mut self) {
+        let (active, bits) = (self.stage.display.active().clone(), self.stage.display.bits());
+        let drawn = active.order().into_iter().filter(|&n| active.layer(n).graphics);
+        let Some(g) = drawn.max_by_key(|&n| active.layer(n).picture_len()) else { return };
+        let shown = |kind| Bank { g, kind, b: active.bank(kind, g) };
+        // The largest letters show little of themselves, and so come more often.
+        let (any, scale) = (self.rng.below(COLOURS), self.rng.pick(&[0, 1, 2, 3, 3]));
+        let colour = self.rng.pick(&[COLOURS - 2, COLOURS - 1, any]);
+        let [x, y] = [self.rng.below(3), self.rng.below(3)].map(|start| start as u32);
+        let words = [12 << 28 | x, 0, scale << 30 | y, (colour as u32) << 8];
+        let list: Vec<u8> = words.into_iter().flat_map(u32::to_le_bytes).chain(END).collect();
+        self.store_at(shown(Kind::Instruction), 0, &list);
+        let letters = [self.rng.range(32, 127), self.rng.range(32, 127)].map(|c| c as u8);
+        self.store_at(shown(Kind::Text), 0, &[letters, letters].concat());
+        for letter in letters {
+            let glyph = self.rng.bytes(bits.glyph_len());
+            self.store_at(shown(Kind::Font), bits.glyph_len() * usize::from(letter - 32), &glyph);
+        }
+        for index in [colour, colour + 1, colour + 2].map(|index| index % COLOURS) {
+            let bytes = [self.rng.byte(), self.rng.byte(), self.rng.byte(), 255];
+            self.store_at(shown(Kind::Colour), 4 * index, &bytes);
+        }
+        self.lend_all();
+        self.call(FRAME, 0, 0);
     }
 
     /// Selects a bank, mostly an idle one, or leaves what is selected; at times what is no bank.
@@ -238,7 +300,7 @@ impl Author {
     fn put_bytes(&mut self, kind: Kind, bytes: &[u8]) {
         let mut refused = 0;
         for &byte in bytes.iter().take(1 + self.rng.below(24)) {
-            self.lend(0, TABLES_LEN, 3);
+            self.lend_tables(3);
             refused += u32::from(self.call(PUT, byte.into(), 0) != DONE);
             // A few more after a refusal show that it left the place; many would show no more.
             if refused > 2 {
@@ -246,8 +308,13 @@ impl Author {
             }
         }
         if self.rng.percent(40) {
-            let left = (kind.end() as i64 + self.rng.range(-30, 2)) as u32;
+            let end = kind.end(self.stage.display.bits()) as i64;
+            let mut left = (end + self.rng.range(-30, 2)) as u32;
             let byte = u32::from(self.rng.byte());
+            while left >= MOST_PUTS {
+                self.call(PUT, byte, MOST_PUTS - 1);
+                left -= MOST_PUTS;
+            }
             self.call(PUT, byte, left);
             self.call(PUT, 1, 0);
         }
@@ -255,7 +322,7 @@ impl Author {
 
     /// Puts a run, and at times an empty one, which is never refused, or a byte that shows its place.
     fn run_puts(&mut self, bytes: &[u8]) {
-        self.lend(0, TABLES_LEN, 10);
+        self.lend_tables(10);
         let run = runs::puts(&mut self.rng, bytes, &self.stage.display);
         if self.rng.percent(30) {
             self.fill_buffer(FILL_PICTURES);
@@ -283,7 +350,7 @@ impl Author {
             self.call(PICTURE_WORD, place, u32::from_le_bytes(whole));
         }
         let length = bytes.len() as u32;
-        let (first, length) = match self.rng.below(30) {
+        let (first, length) = match self.rng.below(20) {
             0 => (self.rng.pick(&[end, end + 1, u32::MAX]), length),
             1 => (first, u32::MAX),
             _ => (first, length),
@@ -388,9 +455,9 @@ impl Author {
     fn lend_all(&mut self) {
         let active = self.stage.display.active();
         let (pictures, out) = (active.pictures_len() as usize, active.output_len() as usize);
-        for (buffer, right) in (0..).zip([TABLES_LEN, pictures, out]) {
-            self.lend(buffer, right, 3);
-        }
+        self.lend_tables(3);
+        self.lend(1, pictures, 3);
+        self.lend(2, out, 3);
     }
 }
 
@@ -412,6 +479,13 @@ pub fn wish(rng: &mut Rng, display: &Display) -> Words {
             scene(rng, room(width, height))
         }
     }
+}
+
+/// A number of bits to make a display by: in half of them 2, else 1 or what is refused. Some of
+/// these have only their low bits right.
+pub fn new_bits(rng: &mut Rng) -> u32 {
+    let wrong = rng.pick(&[0, 0, 3, 3, 0x101, 0x102, 0x1_0001, 0x8000_0002, u32::MAX]);
+    rng.pick(&[2, 2, 2, 1, wrong, wrong])
 }
 
 /// A band that is empty, refused, or any at all.

@@ -7,7 +7,7 @@ use crate::cases::scene::{scene, spoil, Room};
 use crate::doors::ROOM;
 use crate::rng::Rng;
 use crate::state::*;
-use crate::tables::Kind;
+use crate::tables::{Bits, Kind};
 use crate::words::{layer_word, named_bits, Words, LAYERS, WORDS};
 
 pub fn state(rng: &mut Rng) -> Vec<u8> {
@@ -38,13 +38,16 @@ fn paintable(rng: &mut Rng) -> Vec<u8> {
     }
     let kind = rng.pick(&Kind::ALL);
     let selection = rng.below(64) as u32 & !0b110 | kind.number() << 1;
-    let end = kind.end() as u32;
+    let (bits, profile) = profile(rng);
+    let [end, other] = [bits, bits.other()].map(|bits| kind.end(bits) as u32);
+    let places = [0, 1, end - 2, end - 1, end, end + 1, other - 1, other, 4_096, 1 << 31, u32::MAX];
     let numbers = [
         (FRAME_AT, frame_number(rng, &active, now)),
         (ERRORS_AT, any_word(rng)),
         (SELECTED_AT, rng.pick(&[0, 1, 1, 7, 256, 1 << 31, u32::MAX])),
         (SELECTION_AT, selection | rng.pick(&[0, 0, 0, 64, 0x1_0000, 0xFFFF_FFC0])),
-        (PLACE_AT, rng.pick(&[0, 1, end - 2, end - 1, end, end + 1, 4_096, 1 << 31, u32::MAX])),
+        (PLACE_AT, rng.pick(&places)),
+        (PROFILE_AT, profile),
     ];
     let words = pending.0.into_iter().chain(active.0);
     let mut bytes: Vec<u8> = words.flat_map(u32::to_le_bytes).collect();
@@ -53,6 +56,13 @@ fn paintable(rng: &mut Rng) -> Vec<u8> {
         bytes[at..at + 4].copy_from_slice(&word.to_le_bytes());
     }
     bytes
+}
+
+/// A number of bits and a profile that says so; in half of them bits are set that do not count.
+fn profile(rng: &mut Rng) -> (Bits, u32) {
+    let bits = rng.pick(&Bits::ALL);
+    let others = rng.pick(&[0, 0, 0, 0, 2, 0x100, 1 << 31, !1]);
+    (bits, others | u32::from(bits == Bits::Two))
 }
 
 /// Gives the words faults that a start would refuse, and mostly keeps their pictures short enough

@@ -1,14 +1,14 @@
 //! Rows of calls from C on one state, right ones and wrong ones, from states of every kind on.
 
 use crate::answers::DONE;
-use crate::cases::calls::{odd_band, wish};
+use crate::cases::calls::{new_bits, odd_band, wish};
 use crate::cases::scene::{controller, pictures, spoil};
 use crate::cases::{banks, damage, hosts, runs};
 use crate::display::Display;
 use crate::doors::*;
 use crate::rng::Rng;
-use crate::state::{read_state, PLACE_AT, SELECTED_AT, SELECTION_AT, STATE_LEN};
-use crate::tables::{Bank, Kind, TABLES_LEN};
+use crate::state::{read_state, PLACE_AT, PROFILE_AT, SELECTED_AT, SELECTION_AT, STATE_LEN};
+use crate::tables::{Bank, Bits, Kind};
 use crate::words::WORDS;
 
 /// The rows that the tests compare unless told otherwise, of the seeds from 0 on.
@@ -29,7 +29,7 @@ pub fn gen_row(seed: u64) -> Vec<Step> {
             30 | 31 => author.toggle(),
             32..=34 => author.read(),
             35..=37 => author.damage(),
-            38 => drop(author.call(Door::New, 0, 0)),
+            38 => author.make(),
             39 | 40 => author.run_any_puts(),
             41 | 42 => author.run_writes(),
             _ => author.lend_wrong_state(),
@@ -77,14 +77,16 @@ impl Author {
         let display = self.display();
         let [pictures, out] =
             [display.active().pictures_len(), display.active().output_len()].map(length);
-        let right = [state, TABLES_LEN, pictures, out, self.run, COUNT_LEN];
+        let [tables, others] = [display.bits(), display.bits().other()].map(Bits::tables_len);
+        let right = [state, tables, pictures, out, self.run, COUNT_LEN];
         let rng = &mut self.rng;
         let mut lent = [Lent::default(); BUFFERS];
         // Runs come less often than other calls, and many of them have bytes.
         let share = if door.takes(RUN) { 10 } else { 5 };
         for buffer in (0..BUFFERS).filter(|&buffer| door.takes(buffer)) {
             let right = right[buffer];
-            let near = [0, right.saturating_sub(1), right + 1, right + 4];
+            let mut near = vec![0, right.saturating_sub(1), right + 1, right + 4];
+            near.extend([others; 2].into_iter().filter(|_| buffer == TABLES));
             let is_wrong = buffer != STATE && buffer != COUNT && rng.percent(share);
             let length = if is_wrong { rng.pick(&near) } else { right };
             lent[buffer] = Lent { length: length.min(ROOM), past: rng.pick(&places(buffer)) };
@@ -97,15 +99,20 @@ impl Author {
         told.answer
     }
 
-    /// The same state by other bytes: where something is selected, any number but 0 says so.
+    /// The same state by other bytes: where something is selected, any number but 0 says so, and of
+    /// the profile bit 0 alone counts.
     fn spell_anew(&mut self) {
         let mut state = self.stage.rooms[STATE][..STATE_LEN].to_vec();
+        let others: [u32; 5] = [2, 7, 256, 1 << 31, u32::MAX];
         let selected = &mut state[SELECTED_AT..SELECTION_AT];
         if selected.iter().any(|&byte| byte != 0) {
-            let other: u32 = self.rng.pick(&[2, 7, 256, 1 << 31, u32::MAX]);
-            selected.copy_from_slice(&other.to_le_bytes());
-            self.store(STATE, state);
+            selected.copy_from_slice(&self.rng.pick(&others).to_le_bytes());
         }
+        if self.rng.percent(50) {
+            let profile = self.rng.pick(&others) & !1 | u32::from(state[PROFILE_AT] & 1);
+            state[PROFILE_AT..].copy_from_slice(&profile.to_le_bytes());
+        }
+        self.store(STATE, state);
     }
 
     /// Any call at all on a state of a wrong length, with what would be right beside it.
@@ -114,7 +121,7 @@ impl Author {
         let (a, b) = (self.rng.u32(), self.rng.u32());
         let few = self.rng.percent(50);
         let (a, b) = if few { (a % 9, b % 9) } else { (a, b) };
-        let state = self.rng.pick(&[0, 0, 4, 208, 416, 432, 435, 437, 440, 872]);
+        let state = self.rng.pick(&[0, 0, 4, 208, 416, 436, 436, 439, 441, 444, 880]);
         // No run, two writes, or the last one again.
         self.run = self.rng.pick(&[0, 10, self.run]);
         self.call_with(door, a, b, state);
@@ -129,13 +136,18 @@ impl Author {
             2..=4 => {
                 let bytes = self.rng.bytes(STATE_LEN);
                 self.store(STATE, bytes);
-                self.call(Door::New, 0, 0);
+                self.make();
             }
             _ => self.damage(),
         }
         if self.rng.percent(60) {
             self.store_tables();
         }
+    }
+
+    fn make(&mut self) {
+        let bits = new_bits(&mut self.rng);
+        self.call(Door::New, bits, 0);
     }
 
     /// A damaged state, and as a rule any call on it at once: the first call puts some of it right.
@@ -151,7 +163,7 @@ impl Author {
     fn any_call(&mut self) {
         let rng = &mut self.rng;
         let any = rng.u32();
-        let (door, a, b) = match rng.below(12) {
+        let (door, a, b) = match rng.below(13) {
             0 => (Door::Write, rng.pick(&[0, 1, 3, 51, 52, u32::MAX]), any),
             1 => (Door::Select, rng.pick(&[0, 1, 63, 64, u32::MAX]), 0),
             2 => (Door::Toggle, any, 0),
@@ -164,6 +176,7 @@ impl Author {
             }
             8 => (Door::Frame, 0, 0),
             9 | 10 => return self.run_any_puts(),
+            11 => return self.make(),
             _ => return self.run_writes(),
         };
         self.call(door, a, b);
@@ -171,7 +184,7 @@ impl Author {
 
     fn store_tables(&mut self) {
         let display = self.display();
-        let tables = hosts::tables(&mut self.rng, display.active());
+        let tables = hosts::tables(&mut self.rng, display.active(), display.bits());
         self.store(TABLES, tables);
     }
 
@@ -216,12 +229,13 @@ impl Author {
         let kind = self.rng.pick(&Kind::ALL);
         let g = controller(&mut self.rng, display.active());
         let layer = display.active().layer(g);
-        let bytes = banks::bank(&mut self.rng, kind, layer.width.max(1), layer.height.max(1));
+        let (width, height) = (layer.width.max(1), layer.height.max(1));
+        let bytes = banks::bank(&mut self.rng, kind, display.bits(), width, height);
         self.select(kind, g);
         if self.rng.percent(40) {
             self.go_to_end(kind);
         }
-        if self.rng.percent(30) {
+        if self.rng.percent(40) {
             self.run_puts(&bytes);
             return;
         }
@@ -272,8 +286,8 @@ impl Author {
     /// Moves the place near the end of a kind, as many puts would.
     fn go_to_end(&mut self, kind: Kind) {
         let mut state = self.stage.rooms[STATE][..STATE_LEN].to_vec();
-        let place = kind.end() as u32 - self.rng.below(4) as u32;
-        state[PLACE_AT..].copy_from_slice(&place.to_le_bytes());
+        let place = kind.end(self.display().bits()) as u32 - self.rng.below(4) as u32;
+        state[PLACE_AT..PROFILE_AT].copy_from_slice(&place.to_le_bytes());
         self.store(STATE, state);
     }
 

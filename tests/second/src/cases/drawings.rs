@@ -1,10 +1,14 @@
-//! A sheet that draws every character, string length, string number, opcode and weight, and each
-//! scale (01 "Graphics layers"), one instruction a line.
+//! Pages that draw every character, string length, string number, opcode, weight and text colour,
+//! and each scale (01 "Graphics layers"), by one instruction each: as a sheet, and as calls of the
+//! host entry with either number of bits (02 K2).
 
+use crate::cases::banks::plain_colour;
 use crate::cases::form::line_text;
+use crate::cases::hosts::{image_bytes, HostCase};
 use crate::rng::Rng;
 use crate::sheet::{Line, Load, Write};
-use crate::tables::{Bank, Kind, GLYPHS, STRINGS, STRING_LEN};
+use crate::tables::{Bank, Bits, Kind, COLOURS, STRINGS, STRING_LEN};
+use crate::words::Words;
 
 /// A screen with layer 0 all over it, one instruction, and the string bank.
 struct Page {
@@ -13,7 +17,7 @@ struct Page {
     strings: Vec<u8>,
 }
 
-/// The fields that vary; the colours and the rest of the box are the same on every page.
+/// The fields that vary; the rest of the box is the same on every page.
 #[derive(Clone, Copy)]
 struct Instruction {
     opcode: u32,
@@ -21,19 +25,21 @@ struct Instruction {
     string: u32,
     scale: u32,
     weight: u32,
+    colour: u32,
 }
 
-const TEXT: Instruction = Instruction { opcode: 12, start: 0, string: 0, scale: 0, weight: 0 };
+const TEXT: Instruction =
+    Instruction { opcode: 12, start: 0, string: 0, scale: 0, weight: 0, colour: 2 };
 
 impl Instruction {
-    /// The box ends at 7 both ways, in colour 1; the text has colour 2.
+    /// The box ends at 7 both ways, in colour 1.
     fn bytes(self) -> Vec<u8> {
-        let Instruction { opcode, start, string, scale, weight } = self;
+        let Instruction { opcode, start, string, scale, weight, colour } = self;
         let words = [
             opcode << 28 | 7 << 12 | start,
             string,
             scale << 30 | weight << 24 | 7 << 12 | start,
-            0x0201,
+            colour << 8 | 1,
         ];
         words.into_iter().flat_map(u32::to_le_bytes).collect()
     }
@@ -90,32 +96,71 @@ fn scales() -> impl Iterator<Item = Page> {
     })
 }
 
-/// Pages take turns in the two banks of controller 0, since only the idle one can be loaded.
+/// Each number that a text colour can be, over the glyphs of two letters.
+fn text_colours() -> impl Iterator<Item = Page> {
+    (0..=255).map(|colour| {
+        let instruction = Instruction { colour, ..TEXT };
+        Page { size: (16, 8), instruction, strings: string_0(b"AB") }
+    })
+}
+
+fn pages() -> impl Iterator<Item = Page> {
+    let strings = characters().chain(lengths()).chain(string_numbers());
+    strings.chain(boxes()).chain(scales()).chain(text_colours())
+}
+
+impl Page {
+    /// What is to stand at the front of the banks of controller 0.
+    fn banks(&self, bits: Bits) -> [(Kind, Vec<u8>); 4] {
+        let end = [0; 16];
+        [
+            (Kind::Instruction, [&self.instruction.bytes()[..], &end].concat()),
+            (Kind::Colour, (0..COLOURS).flat_map(plain_colour).collect()),
+            (Kind::Text, self.strings.clone()),
+            (Kind::Font, Rng::new(0).bytes(Kind::Font.end(bits))),
+        ]
+    }
+
+    /// The registers that show it from bank b.
+    fn writes(&self, b: usize) -> [(u8, u32); 5] {
+        let size = self.size.0 | self.size.1 << 16;
+        let banks = 0x0101_0101 * b as u32;
+        [(0, 0b101), (1, size), (3, banks), (4, 0b11), (7, size)]
+    }
+}
+
+/// Pages take turns in the two banks of controller 0, since only the idle one can be loaded. Both
+/// have their font from the first pages.
 pub fn drawing_sheet() -> Vec<u8> {
-    let font = Rng::new(0).bytes(8 * GLYPHS);
-    let pages =
-        characters().chain(lengths()).chain(string_numbers()).chain(boxes()).chain(scales());
     let mut sheet = Vec::new();
-    for (i, page) in pages.enumerate() {
+    for (i, page) in pages().enumerate() {
         let b = 1 - i % 2;
-        let load = |kind, bytes| {
+        let load = |(kind, bytes)| {
             let bank = Bank { g: 0, kind, b };
             Load { selection: bank.selection() as u8, bytes }
         };
-        let end = [0; 16];
-        let mut loads = vec![
-            load(Kind::Instruction, [&page.instruction.bytes()[..], &end].concat()),
-            load(Kind::Colour, vec![9, 8, 7, 255, 60, 50, 40, 255, 200, 210, 220, 255]),
-            load(Kind::Text, page.strings),
-        ];
-        if i < 2 {
-            loads.push(load(Kind::Font, font.clone()));
-        }
-        let size = page.size.0 | page.size.1 << 16;
-        let banks = 0x0101_0101 * b as u32;
-        let writes = [(0, 0b101), (1, size), (3, banks), (4, 0b11), (7, size)];
-        let writes = writes.map(|(register, value)| Write { register, value }).to_vec();
+        let banks = page.banks(Bits::One).into_iter();
+        let loads = banks.filter(|(kind, _)| *kind != Kind::Font || i < 2).map(load).collect();
+        let writes = page.writes(b).map(|(register, value)| Write { register, value }).to_vec();
         sheet.extend(line_text(&Line { loads, writes, pictures: Vec::new() }));
     }
     sheet
+}
+
+/// A call for each page, from bank 0 and bank 1 by turns.
+pub fn drawing_calls(bits: Bits) -> Vec<HostCase> {
+    let call = |(i, page): (usize, Page)| {
+        let mut words = Words::fresh();
+        for (register, value) in page.writes(i % 2) {
+            words.0[usize::from(register)] = value;
+        }
+        let mut tables = vec![0; bits.tables_len()];
+        for (kind, bytes) in page.banks(bits) {
+            let start = Bank { g: 0, kind, b: i % 2 }.start(bits);
+            tables[start..start + bytes.len()].copy_from_slice(&bytes);
+        }
+        let output = vec![0xA5; words.output_len() as usize];
+        HostCase { image: image_bytes(&words), frame: 0, tables, pictures: Vec::new(), output }
+    };
+    pages().enumerate().map(call).collect()
 }

@@ -6,7 +6,7 @@ use crate::cases::banks;
 use crate::cases::scene::{pictures, scene, spoil, Room};
 use crate::host::IMAGE_LEN;
 use crate::rng::Rng;
-use crate::tables::{Bank, Kind, TABLES_LEN};
+use crate::tables::{Bank, Bits, Kind};
 use crate::words::{Words, LAYERS};
 
 /// The calls that the tests compare unless told otherwise, of the seeds from 0 on.
@@ -35,7 +35,8 @@ pub fn gen_host(seed: u64) -> HostCase {
     let faults = faults(rng);
     let right_output = words.output_len() as usize;
     let right_pictures = words.pictures_len() as usize;
-    let tables = tables(rng, &words);
+    let bits = rng.pick(&Bits::ALL);
+    let tables = tables(rng, &words, bits);
     let frame = frame_number(rng, &words, now);
     for &fault in faults.iter().filter(|fault| (RESERVED_BIT..=SAME_DEPTH).contains(fault)) {
         spoil(rng, &mut words, fault);
@@ -49,7 +50,7 @@ pub fn gen_host(seed: u64) -> HostCase {
             right
         }
     };
-    let tables_len = lent(rng, WRONG_TABLES, TABLES_LEN);
+    let tables_len = lent(rng, WRONG_TABLES, bits.tables_len());
     let pictures_len = lent(rng, WRONG_PICTURES, right_pictures);
     let output_len = lent(rng, WRONG_OUTPUT, right_output);
     HostCase {
@@ -101,21 +102,21 @@ fn screen(rng: &mut Rng) -> (i64, i64) {
 }
 
 /// Both banks of every controller, fitted to its layer.
-pub fn tables(rng: &mut Rng, words: &Words) -> Vec<u8> {
-    let mut tables = vec![0; TABLES_LEN];
+pub fn tables(rng: &mut Rng, words: &Words, bits: Bits) -> Vec<u8> {
+    let mut tables = vec![0; bits.tables_len()];
     for g in 0..LAYERS {
-        fill_banks(rng, words, g, &mut tables);
+        fill_banks(rng, words, g, bits, &mut tables);
     }
     tables
 }
 
 /// Both banks of one controller.
-pub fn fill_banks(rng: &mut Rng, words: &Words, g: usize, tables: &mut [u8]) {
+pub fn fill_banks(rng: &mut Rng, words: &Words, g: usize, bits: Bits, tables: &mut [u8]) {
     let layer = words.layer(g);
     for kind in Kind::ALL {
         for b in 0..2 {
-            let bytes = banks::bank(rng, kind, layer.width, layer.height);
-            let start = Bank { g, kind, b }.start();
+            let bytes = banks::bank(rng, kind, bits, layer.width, layer.height);
+            let start = Bank { g, kind, b }.start(bits);
             tables[start..start + bytes.len()].copy_from_slice(&bytes);
         }
     }

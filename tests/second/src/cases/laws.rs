@@ -4,10 +4,11 @@
 
 use crate::answers::DONE;
 use crate::cases::hosts::{fill_banks, frame_number, image_bytes, tables, HostCase};
+use crate::cases::letters::with_lines;
 use crate::cases::scene::{alpha_word, pair, pictures, place, scene, span, write_fade, Room};
 use crate::paint::{shown, Shown};
 use crate::rng::Rng;
-use crate::tables::{Bank, Kind, COLOURS};
+use crate::tables::{Bank, Bits, Kind, Tables, COLOURS, INSTRUCTIONS, INSTRUCTION_LEN};
 use crate::words::{layer_word, Words, DEPTH_BITS, LAYERS};
 
 /// All that a frame is painted from, accepted and of the right lengths, with the display on.
@@ -15,6 +16,7 @@ use crate::words::{layer_word, Words, DEPTH_BITS, LAYERS};
 pub struct Inputs {
     pub words: Words,
     pub frame: u32,
+    pub bits: Bits,
     pub tables: Vec<u8>,
     /// By layer; what is no enabled frame layer has none.
     pub pictures: [Vec<u8>; LAYERS],
@@ -35,22 +37,24 @@ impl Inputs {
         Inputs::new(&mut Rng::new(seed ^ 0x6C61_7773), layers)
     }
 
+    /// With tables of either number of bits.
     fn new(rng: &mut Rng, layers: usize) -> Inputs {
         let room = room(rng);
         loop {
             let mut words = scene(rng, room);
             words.0[0] |= 1;
             if words.order().len() >= layers {
-                return Inputs::of(rng, words, room.now);
+                let bits = rng.pick(&Bits::ALL);
+                return Inputs::of(rng, words, room.now, bits);
             }
         }
     }
 
     /// Tables, pictures and a frame number for words.
-    fn of(rng: &mut Rng, words: Words, now: u32) -> Inputs {
-        let tables = tables(rng, &words);
+    fn of(rng: &mut Rng, words: Words, now: u32, bits: Bits) -> Inputs {
+        let tables = tables(rng, &words, bits);
         let frame = frame_number(rng, &words, now);
-        let mut inputs = Inputs { words, frame, tables, pictures: Default::default() };
+        let mut inputs = Inputs { words, frame, bits, tables, pictures: Default::default() };
         (0..LAYERS).for_each(|n| inputs.renew_picture(rng, n));
         inputs
     }
@@ -73,11 +77,18 @@ impl Inputs {
         }
     }
 
+    pub fn lent_tables(&self) -> Tables<'_> {
+        Tables { bits: self.bits, bytes: &self.tables }
+    }
+
     /// What a layer shows at each of its pixels.
     pub fn shown(&self, n: usize) -> Vec<Shown> {
-        shown(&self.words, n, self.frame, &self.tables, &self.pictures.concat())
+        shown(&self.words, n, self.frame, self.lent_tables(), &self.pictures.concat())
     }
 }
+
+/// "word 3: .. text colour 15:8", in an instruction's bytes.
+const TEXT_COLOUR_AT: usize = 13;
 
 /// Small screens, most of them wider than a block of sixteen pixels.
 fn room(rng: &mut Rng) -> Room {
@@ -91,13 +102,13 @@ fn room(rng: &mut Rng) -> Room {
 /// a line across the screen, touching it or not. `layer` is the lower one.
 pub fn gen_exchange(seed: u64) -> Pair {
     let rng = &mut Rng::new(seed ^ 0x6578_6368);
-    let Inputs { mut words, frame, .. } = Inputs::new(rng, 2);
+    let Inputs { mut words, frame, bits, .. } = Inputs::new(rng, 2);
     let order = words.order();
     let lower = rng.below(order.len() - 1);
     let (i, j) = (order[lower], order[lower + 1]);
     let upright = rng.percent(50);
     let touching = part(rng, &mut words, i, j, upright);
-    let one = Inputs::of(rng, words, frame);
+    let one = Inputs::of(rng, words, frame, bits);
     let mut other = one.clone();
     let changed = (one.words.0[layer_word(i)] ^ one.words.0[layer_word(j)]) & DEPTH_BITS;
     other.words.0[layer_word(i)] ^= changed;
@@ -181,7 +192,7 @@ fn renew(rng: &mut Rng, inputs: &mut Inputs, m: usize) {
     place(rng, words, m, room);
     write_fade(rng, words, m, inputs.frame);
     words.0[3] ^= rng.u32() & 0x0101_0101 << m;
-    fill_banks(rng, words, m, &mut inputs.tables);
+    fill_banks(rng, words, m, inputs.bits, &mut inputs.tables);
     inputs.renew_picture(rng, m);
 }
 
@@ -202,6 +213,26 @@ pub fn gen_invisible(seed: u64) -> Pair {
         (false, _) => "no picture of its own",
     };
     Pair { one, other, layer, kinds: vec![by, others.into()] }
+}
+
+/// "1 to 3 give text colour plus value minus one, modulo 16": glyphs of two bits that have only 0
+/// and one other value, and glyphs of one bit with a 1 there, in text colours that are raised so.
+/// Answers both, and that value.
+pub fn gen_one_value(seed: u64) -> (Inputs, Inputs, u8) {
+    let rng = &mut Rng::new(seed ^ 0x7661_6C75);
+    let Inputs { words, frame, .. } = Inputs::new(rng, 1);
+    let mut one_bit = Inputs::of(rng, words, frame, Bits::One);
+    let value = rng.range(1, 3) as u8;
+    let valued = |line: [u8; 8]| line.map(|pixel| pixel * value);
+    let tables = with_lines(one_bit.lent_tables(), Bits::Two, valued);
+    let two_bits = Inputs { bits: Bits::Two, tables, ..one_bit.clone() };
+    for bank in Bank::all(Kind::Instruction) {
+        let start = bank.start(Bits::One) + TEXT_COLOUR_AT;
+        for at in (start..).step_by(INSTRUCTION_LEN).take(INSTRUCTIONS) {
+            one_bit.tables[at] = one_bit.tables[at].wrapping_add(value - 1);
+        }
+    }
+    (one_bit, two_bits, value)
 }
 
 /// Some pixels of a picture opaque, the rest as they are.
@@ -233,7 +264,7 @@ fn at_one_alpha(rng: &mut Rng, inputs: &mut Inputs, n: usize, alpha: u8) -> Stri
 /// The whole colour table, or only the colours that are drawn.
 fn by_colours(rng: &mut Rng, inputs: &mut Inputs, n: usize, alpha: u8) -> String {
     let b = inputs.words.bank(Kind::Colour, n);
-    let start = Bank { g: n, kind: Kind::Colour, b }.start();
+    let start = Bank { g: n, kind: Kind::Colour, b }.start(inputs.bits);
     // Each colour by its own number, to see which are drawn.
     let mut numbered = inputs.clone();
     for i in 0..COLOURS {

@@ -5,15 +5,16 @@ use crate::display::{Display, Selected, ITEM_LEN};
 use crate::doors::Door;
 use crate::rng::Rng;
 use crate::state::{read_state, state_bytes};
-use crate::tables::{Bank, Kind, TABLES_LEN};
+use crate::tables::{Bank, Kind};
 use crate::words::WORDS;
 
 /// Bytes to put, over and over: none, a few, what the selected table just has room for, more than
 /// that, or as many as the longest table has and more.
 pub fn puts(rng: &mut Rng, bytes: &[u8], display: &Display) -> Vec<u8> {
     let Selected { selection, place, .. } = display.selected;
-    let left = Bank::of_selection(selection).kind.end().saturating_sub(place as usize);
-    let (few, long) = (rng.below(24), Kind::Font.end());
+    let end = Bank::of_selection(selection).kind.end(display.bits);
+    let left = end.saturating_sub(place as usize);
+    let (few, long) = (rng.below(24), Kind::Font.end(display.bits));
     let count = rng.pick(&[0, 1, few, left, left, left + 1, left + few, long, long + few]);
     bytes.iter().copied().cycle().take(count).collect()
 }
@@ -81,10 +82,11 @@ pub fn gen_run(seed: u64) -> RunCase {
         Door::PutRun => puts(&mut rng, &bytes, &display),
         _ => writes(&mut rng),
     };
-    let wrong = rng.pick(&[0, TABLES_LEN - 1, TABLES_LEN + 1]);
+    let right = display.bits.tables_len();
+    let wrong = rng.pick(&[0, right - 1, right + 1, display.bits.other().tables_len()]);
     let length = match door {
         Door::PutRun if rng.percent(10) => wrong,
-        Door::PutRun => TABLES_LEN,
+        Door::PutRun => right,
         _ => 0,
     };
     let parted = item_len(door) * rng.below(run.len() / item_len(door) + 1);
@@ -95,7 +97,7 @@ pub fn gen_run(seed: u64) -> RunCase {
 fn make_ready(rng: &mut Rng, display: &mut Display) {
     let Bank { g, kind, .. } = Bank::of_selection(display.selected.selection);
     let idle = Bank { g, kind, b: 1 - display.active.bank(kind, g) };
-    let place = if rng.percent(3) { 0 } else { kind.end() - rng.below(24) };
+    let place = if rng.percent(15) { 0 } else { kind.end(display.bits) - rng.below(24) };
     let selection = idle.selection();
     display.selected = Selected { is_any: rng.percent(95), selection, place: place as u32 };
 }

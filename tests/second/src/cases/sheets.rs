@@ -7,7 +7,7 @@ use crate::cases::scene::{controller, nudge, pictures, scene, spoil, Room};
 use crate::cases::{banks, form};
 use crate::rng::Rng;
 use crate::sheet::{Line, Load, Sheet, Write, MOST_DIGITS, MOST_OUTPUT};
-use crate::tables::{active_bytes, Bank, Kind};
+use crate::tables::{Bank, Kind};
 use crate::words::{Words, LAYERS, WORDS};
 
 /// The sheets that the tests compare unless told otherwise, of the seeds from 0 on.
@@ -146,8 +146,9 @@ impl Author {
     /// Loads of banks that are not active, and mostly the wish that they become so.
     fn load_idle_banks(&mut self, line: &mut Line, wish: &mut Words) {
         let g = controller(&mut self.rng, wish);
-        let no_colours =
-            active_bytes(wish, Kind::Colour, g, &self.sheet.tables).iter().all(|&byte| byte == 0);
+        let bits = self.sheet.display.bits();
+        let tables = self.sheet.display.tables(&self.sheet.tables);
+        let no_colours = tables.active(wish, Kind::Colour, g).iter().all(|&byte| byte == 0);
         let kinds = match self.rng.below(10) {
             0..=2 => Vec::new(),
             _ if no_colours => Kind::ALL.to_vec(),
@@ -157,7 +158,7 @@ impl Author {
         for kind in kinds {
             let bank = self.idle(kind, g);
             let layer = wish.layer(g);
-            let mut bytes = banks::bank(&mut self.rng, kind, layer.width, layer.height);
+            let mut bytes = banks::bank(&mut self.rng, kind, bits, layer.width, layer.height);
             if self.rng.percent(10) {
                 bytes.truncate(self.rng.below(bytes.len() + 1));
             }
@@ -195,7 +196,10 @@ impl Author {
         let (selection, count) = match fault {
             NO_BANK => (self.rng.pick(&[64, 65, 127, 128, 255]), self.rng.below(5)),
             BANK_ACTIVE => (Bank { b: 1 - idle.b, ..idle }.selection(), 1 + self.rng.below(70)),
-            _ => (idle.selection(), kind.end() + 1 + self.rng.below(3)),
+            _ => {
+                let end = kind.end(self.sheet.display.bits());
+                (idle.selection(), end + 1 + self.rng.below(3))
+            }
         };
         let load = Load { selection: selection as u8, bytes: self.rng.bytes(count) };
         line.loads.insert(self.rng.below(line.loads.len() + 1), load);
@@ -249,7 +253,7 @@ impl Author {
             let kind = self.rng.pick(&[Kind::Instruction, Kind::Font]);
             let g = self.rng.below(LAYERS);
             let bank = self.idle(kind, g);
-            let mut count = kind.end().min(missing - LOAD_HEAD);
+            let mut count = kind.end(self.sheet.display.bits()).min(missing - LOAD_HEAD);
             if (1..LOAD_HEAD).contains(&(missing - LOAD_HEAD - count)) {
                 // Too little would be left for another load.
                 count -= LOAD_HEAD;

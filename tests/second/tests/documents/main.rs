@@ -60,7 +60,7 @@ fn every_edit_is_named_in_the_promises() {
 }
 
 /// The most lines that a reader of document 01 has to believe.
-const MOST_READ: usize = 1_300;
+const MOST_READ: usize = 1_400;
 
 /// The files of a row of the reading list: after a path, names without a folder are files beside it.
 fn files_in(row: &str) -> Vec<String> {

@@ -1,14 +1,16 @@
 //! What the rows of calls from C reach.
 
+use crate::letters::{made_name, made_names, others_name, others_names, text_kinds, text_names};
 use crate::runs::{assert_runs, run_kinds, Run};
 use crate::{assert_came, count, show, Counts};
 use second::answers::*;
 use second::cases::{gen_row, ROWS};
 use second::display::Display;
 use second::doors::*;
-use second::state::{read_state, state_bytes, PLACE_AT, SELECTION_AT, STATE_LEN};
+use second::state::{read_state, PLACE_AT, PROFILE_AT, SELECTED_AT, SELECTION_AT, STATE_LEN};
 use second::tables::Bank;
 use second::words::Words;
+use std::collections::BTreeSet;
 
 /// Faults of active words, which no start lets in.
 fn damages(words: &Words) -> Option<&'static str> {
@@ -23,7 +25,7 @@ fn damages(words: &Words) -> Option<&'static str> {
 
 /// What a call from C does, by names.
 fn door_kinds(before: &[u8], step: &Step, told: &Told) -> Vec<String> {
-    let Step::Call { door, lent, null, .. } = step else { return Vec::new() };
+    let Step::Call { door, a, lent, null, .. } = step else { return Vec::new() };
     let mut kinds = vec![format!("{door:?} answers {}", told.answer)];
     if door.is_read() {
         kinds = vec![format!("{door:?} of {}", if told.answer == 0 { "0" } else { "more" })];
@@ -35,7 +37,12 @@ fn door_kinds(before: &[u8], step: &Step, told: &Told) -> Vec<String> {
     }
     if lent[STATE].length == STATE_LEN && !door.is_read() {
         let display = read_state(before).expect("it is whole");
+        let bits = display.bits();
         kinds.extend(state_kinds(&display, before, *door, told));
+        kinds.extend((*door == Door::New).then(|| made_name(*a, bits)));
+        let others = bits.other().tables_len();
+        let is_others = told.answer == WRONG_TABLES && lent[TABLES].length == others;
+        kinds.extend(is_others.then(|| others_name(&format!("{door:?}"), bits)));
     }
     kinds
 }
@@ -48,13 +55,15 @@ fn state_kinds(display: &Display, before: &[u8], door: Door, told: &Told) -> Vec
         kinds.extend((is_done && door.takes(OUTPUT)).then(|| format!("{door:?} over {damage}")));
         kinds.extend((!is_done).then(|| format!("damaged, {door:?} answers {}", told.answer)));
     }
-    if before != state_bytes(display) {
-        kinds.push(format!("selected above 1, {door:?} answers {}", told.answer));
-    }
-    let [selection, place] = [SELECTION_AT, PLACE_AT]
+    let [selected, selection, place, profile] = [SELECTED_AT, SELECTION_AT, PLACE_AT, PROFILE_AT]
         .map(|at| u32::from_le_bytes(before[at..at + 4].try_into().expect("a word")));
+    for (name, word) in [("selected", selected), ("profile", profile)] {
+        kinds.extend(
+            (word > 1).then(|| format!("{name} above 1, {door:?} answers {}", told.answer)),
+        );
+    }
     if matches!(door, Door::Put | Door::PutRun) {
-        let end = Bank::of_selection(selection).kind.end();
+        let end = Bank::of_selection(selection).kind.end(display.bits());
         let is_put = selection > 63 && !told.changes.is_empty();
         kinds.extend(is_put.then(|| format!("{door:?} by a selection above 63")));
         let is_past = place as usize > end;
@@ -65,7 +74,7 @@ fn state_kinds(display: &Display, before: &[u8], door: Door, told: &Told) -> Vec
 
 /// The answers that each call from C can give.
 const DOOR_ANSWERS: [(Door, &[u32]); 11] = [
-    (Door::New, &[0, 23]),
+    (Door::New, &[0, 17, 23]),
     (Door::Write, &[0, 1, 23]),
     (Door::Select, &[0, 2, 23]),
     (Door::Toggle, &[0, 23]),
@@ -86,6 +95,7 @@ fn count_rows() -> Counts {
             let before = stage.rooms[STATE][..STATE_LEN].to_vec();
             let Some(told) = stage.play(&step) else { continue };
             count(&mut counts, door_kinds(&before, &step, &told));
+            count(&mut counts, letter_kinds(&before, &step, &told, &stage.rooms[TABLES]));
             let Step::Call { door, lent, .. } = step else { continue };
             if door.takes(RUN) {
                 let bytes = &stage.rooms[RUN][..lent[RUN].length];
@@ -95,6 +105,24 @@ fn count_rows() -> Counts {
         }
     }
     counts
+}
+
+/// What a painting shows of the glyphs in its tables, by names.
+fn letter_kinds(before: &[u8], step: &Step, told: &Told, tables: &[u8]) -> BTreeSet<String> {
+    let (low, high) = match *step {
+        Step::Call { door: Door::Paint, a, b, .. } if told.answer == DONE => (a, b),
+        Step::Call { door: Door::Frame, .. } if told.answer == DONE => (0, 8),
+        _ => return BTreeSet::new(),
+    };
+    let display = read_state(before).expect("it is whole");
+    let active = display.active();
+    let is_drawn = |n: &usize| {
+        let layer = active.layer(*n);
+        active.display_on() && layer.graphics && (low..high).contains(&layer.depth)
+    };
+    let layers = active.order().into_iter().filter(is_drawn);
+    let (frame, tables) = (display.frame_number(), display.tables(tables));
+    layers.flat_map(|n| text_kinds(active, n, frame, tables)).collect()
 }
 
 /// Every call with each of its answers, and what is lent to it anywhere modulo 16 and as NULL.
@@ -133,10 +161,19 @@ fn assert_damages(counts: &Counts) {
     ];
     assert_came(counts, others.map(String::from), 10);
     for (door, answers) in DOOR_ANSWERS {
-        // Something is selected in such a state, and 23 leaves it.
-        let answers = answers.iter().filter(|&&n| n != NOTHING_SELECTED && n != WRONG_STATE);
-        assert_came(counts, answers.map(|n| format!("selected above 1, {door:?} answers {n}")), 5);
+        // 23 leaves such a state, and something is selected in the first.
+        let answers = answers.iter().filter(|&&n| n != WRONG_STATE);
+        let selected = answers.clone().filter(|&&n| n != NOTHING_SELECTED);
+        assert_came(counts, selected.map(|n| format!("selected above 1, {door:?} answers {n}")), 5);
+        assert_came(counts, answers.map(|n| format!("profile above 1, {door:?} answers {n}")), 5);
     }
+}
+
+/// Glyphs of one bit and two, tables of the other number's length, and states made by any number.
+fn assert_letters(counts: &Counts) {
+    assert_came(counts, text_names(), 50);
+    assert_came(counts, others_names(&["Put", "PutRun", "Paint", "Frame"]), 10);
+    assert_came(counts, made_names(), 10);
 }
 
 #[test]
@@ -145,5 +182,6 @@ fn rows_reach_everything() {
     show("calls from C by kind", &counts);
     assert_calls(&counts);
     assert_damages(&counts);
+    assert_letters(&counts);
     assert_runs(&counts);
 }

@@ -1,9 +1,12 @@
 //! What the seeded cases of the gate reach, with how often at least: every answer, kind of call,
-//! fade and order of depths. `--nocapture` shows the counts.
+//! fade, order of depths and value of a glyph. `--nocapture` shows the counts.
 
 mod doors;
+mod letters;
 mod runs;
 
+use letters::{bits_name, text_kinds, text_names, value_names};
+use letters::{made_name, made_names, others_name, others_names};
 use second::answers::*;
 use second::cases::{end_name, gate_script, gen_calls, gen_edges, gen_host, gen_row, gen_sheet};
 use second::cases::{HostCase, EDGES, HOST_CALLS, LINES_A_SHEET};
@@ -13,7 +16,7 @@ use second::draw::List;
 use second::host::{host_frame, image_words};
 use second::script::*;
 use second::sheet::Sheet;
-use second::tables::{active_bytes, Kind, TABLES_LEN};
+use second::tables::{Bits, Kind, Tables};
 use second::words::{Layer, Words, LAYERS};
 use std::collections::{BTreeMap, BTreeSet};
 
@@ -48,7 +51,7 @@ fn answers(numbers: &[u32]) -> Vec<String> {
 fn painted_kinds(
     words: &Words,
     frame: u32,
-    tables: &[u8],
+    tables: Tables,
     low: u32,
     high: u32,
 ) -> BTreeSet<String> {
@@ -64,10 +67,12 @@ fn painted_kinds(
         kinds.insert(format!("layer {n} at depth {}", layer.depth));
         kinds.extend(order[i + 1..].iter().map(|over| format!("layer {n} under layer {over}")));
         kinds.extend(fade_kinds(&layer, frame));
-        let list = List::read(active_bytes(words, Kind::Instruction, n, tables));
-        kinds.extend((layer.graphics && !list.ended).then(|| "list without END".into()));
-        let global = layer.graphics && layer.global_alpha;
-        kinds.extend(global.then(|| "list at global alpha".into()));
+        if layer.graphics {
+            let list = List::read(tables.active(words, Kind::Instruction, n));
+            kinds.extend((!list.ended).then(|| "list without END".into()));
+            kinds.extend(layer.global_alpha.then(|| "list at global alpha".into()));
+            kinds.extend(text_kinds(words, n, frame, tables));
+        }
     }
     kinds
 }
@@ -146,8 +151,8 @@ fn sheets_reach_everything() {
             count(&mut counts, [format!("prints {}", String::from_utf8_lossy(&printed[..2]))]);
             let display = &sheet.display;
             if printed.starts_with(b"00") {
-                let frame = display.frame_number();
-                count(&mut counts, painted_kinds(display.active(), frame, &sheet.tables, 0, 8));
+                let (frame, tables) = (display.frame_number(), display.tables(&sheet.tables));
+                count(&mut counts, painted_kinds(display.active(), frame, tables, 0, 8));
             }
             frames.insert(printed);
         }
@@ -163,6 +168,7 @@ fn sheets_reach_everything() {
     assert_came(&counts, FADES.map(String::from), 10);
     assert_came(&counts, ["list without END", "list at global alpha"].map(String::from), 100);
     assert_came(&counts, depth_kinds(), 20);
+    assert_came(&counts, value_names(Bits::One), 100);
 }
 
 #[test]
@@ -173,8 +179,11 @@ fn host_calls_reach_everything() {
         let HostCase { image, frame, tables, pictures, output } = &case;
         let answer = host_frame(image, *frame, tables, pictures, &mut output.clone());
         count(&mut counts, [format!("answer {answer}")]);
+        count(&mut counts, (answer == WRONG_TABLES).then(|| wrong_tables(tables.len())));
         if answer == DONE {
             let words = image_words(image).expect("it is whole");
+            let tables = Tables::by_length(tables);
+            count(&mut counts, [format!("painted with {}", bits_name(tables.bits))]);
             count(&mut counts, painted_kinds(&words, *frame, tables, 0, 8));
             count(&mut counts, block_kinds(&case));
         }
@@ -189,6 +198,21 @@ fn host_calls_reach_everything() {
     let looks = ["at one alpha", "clear", "opaque", "mixed"];
     let blocks = ["lowest", "other"].map(|place| looks.map(|look| format!("{place}, {look}")));
     assert_came(&counts, blocks.concat(), 20);
+    assert_came(&counts, Bits::ALL.map(|bits| format!("painted with {}", bits_name(bits))), 900);
+    assert_came(&counts, text_names(), 50);
+    let near = Bits::ALL.map(Bits::tables_len).map(|right| [right - 1, right + 1]).concat();
+    assert_came(&counts, near.into_iter().chain([0]).map(wrong_tables), 10);
+}
+
+/// Where a length of tables that is neither right one lies.
+fn wrong_tables(length: usize) -> String {
+    let [one, two] = Bits::ALL.map(Bits::tables_len);
+    let near = if length < (one + two) / 2 { one } else { two };
+    match length {
+        0 => "no tables".into(),
+        _ if length < near => format!("tables of less than {near}"),
+        _ => format!("tables of more than {near}"),
+    }
 }
 
 /// How the blocks of sixteen pixels of a case's pictures come: in the lowest layer over whole
@@ -226,7 +250,7 @@ fn kinds(before: &Stage, call: Call, told: (u32, usize), after: &Stage) -> Vec<S
     let answer = told.0;
     let letter = call.letter as char;
     let mut kinds = vec![format!("{letter}")];
-    if CALLS.contains(&call.letter) {
+    if CALLS.contains(&call.letter) || call.letter == NEW {
         kinds.push(format!("answer {answer}"));
     }
     if answer == DONE && call.paints() {
@@ -239,9 +263,13 @@ fn kinds(before: &Stage, call: Call, told: (u32, usize), after: &Stage) -> Vec<S
             vec!["start refused after a frame".into()]
         }
         PUT_RUN | WRITE_RUN => run_kinds(before, call, told, after),
+        NEW => vec![made_name(call.a, before.display.bits())],
         _ => Vec::new(),
     });
     kinds.extend(wrong_lengths(before, call, answer));
+    let bits = before.display.bits();
+    let is_others = answer == WRONG_TABLES && before.lent.tables == bits.other().tables_len();
+    kinds.extend(is_others.then(|| others_name(&letter.to_string(), bits)));
     if errors.0 & !errors.1 != 0 {
         kinds.push(format!("{letter} clears error bits"));
     }
@@ -284,7 +312,8 @@ fn painting_kinds(before: &Stage, call: Call, after: &Stage) -> Vec<String> {
         BAND => (call.a, call.b),
         _ => (0, 8),
     };
-    let mut kinds = painted_kinds(active, frame, &before.tables, low, high);
+    let tables = before.display.tables(&before.tables);
+    let mut kinds = painted_kinds(active, frame, tables, low, high);
     let lent = &before.out[..before.lent.out];
     let so = [
         ("over a dirty buffer", lent.chunks(4).any(|pixel| pixel[3] != 255)),
@@ -313,7 +342,7 @@ fn band_kind(low: u32, high: u32, answer: u32) -> String {
 fn wrong_lengths(before: &Stage, call: Call, answer: u32) -> Option<String> {
     let active = before.display.active();
     let (lent, right) = match answer {
-        WRONG_TABLES => (before.lent.tables, TABLES_LEN),
+        WRONG_TABLES => (before.lent.tables, before.display.bits().tables_len()),
         WRONG_OUTPUT => (before.lent.out, active.output_len() as usize),
         WRONG_PICTURES => (before.lent.pictures, active.pictures_len() as usize),
         _ => return None,
@@ -337,7 +366,8 @@ fn count_kinds(calls: &[Call], counts: &mut Counts) {
 
 /// The kinds that every script of the gate's length has to have, named as `kinds` names them.
 fn wanted_kinds() -> Vec<String> {
-    let mut wanted: Vec<String> = (DONE..=WRONG_BAND).map(|n| format!("answer {n}")).collect();
+    let numbers = (DONE..=WRONG_BAND).chain([WRONG_BITS]);
+    let mut wanted: Vec<String> = numbers.map(|n| format!("answer {n}")).collect();
     let others = [NEW, LEND, FILL_TABLES, FILL_PICTURES, FILL_OUT, TABLE_WORD, PICTURE_WORD, VIEW];
     wanted.extend(CALLS.iter().chain(&others).map(|&letter| (letter as char).to_string()));
     wanted.extend((0..ITEM_LEN).map(|n| format!("X with {n} bytes over")));
@@ -367,6 +397,11 @@ fn wanted_kinds() -> Vec<String> {
     wanted
 }
 
+/// What they have of glyphs of one bit and two.
+fn wanted_letters() -> Vec<String> {
+    [text_names(), others_names(&["P", "U", "B", "R"])].concat()
+}
+
 #[test]
 fn scripts_reach_everything() {
     let mut counts = Counts::new();
@@ -383,11 +418,13 @@ fn scripts_reach_everything() {
     let empty = [0, 3, 4, 5, 6].map(|n| format!("U empty, where a put then answers {n}"));
     let past = ["U", "X"].map(|letter| format!("{letter} from past the pictures"));
     assert_came(&counts, wanted_kinds(), 10);
+    assert_came(&counts, wanted_letters(), 5);
     assert_came(&counts, lengths.concat(), 5);
     assert_came(&counts, empty.into_iter().chain(past), 5);
     assert_came(&counts, FADES.map(String::from), 10);
     assert_came(&counts, ["list without END", "list at global alpha"].map(String::from), 100);
     assert_came(&counts, depth_kinds(), 10);
+    assert_came(&counts, made_names(), 5);
 }
 
 #[test]
@@ -396,6 +433,8 @@ fn the_script_of_the_gate_has_every_kind() {
     count_kinds(&gate_script(), &mut counts);
     show("records of the gate's script by kind", &counts);
     assert_came(&counts, wanted_kinds(), 1);
+    assert_came(&counts, wanted_letters(), 1);
+    assert_came(&counts, made_names(), 1);
 }
 
 /// A case's number is its seed: the same seed gives the same case, another one another.

@@ -1,12 +1,13 @@
 //! What the runs of puts and of writes reach in the rows of calls from C.
 
+use crate::letters::bits_name;
 use crate::{assert_came, Counts};
 use second::answers::{BANK_FULL, WRONG_STATE};
 use second::cases::{end_name, item_len};
 use second::display::ITEM_LEN;
 use second::doors::{Door, Told};
 use second::state::{read_state, PLACE_AT, SELECTION_AT};
-use second::tables::{Bank, Kind};
+use second::tables::{Bank, Bits, Kind};
 use second::words::WORDS;
 use std::collections::BTreeSet;
 
@@ -45,17 +46,23 @@ fn put_kinds(run: &Run, told: &Told) -> Vec<String> {
         return vec![format!("PutRun empty where a put answers {answer}")];
     }
     let kind = Bank::of_selection(word(run.state, SELECTION_AT)).kind;
+    let bits = display.bits();
+    let end = kind.end(bits);
     let [place, after] = [run.state, &told.state].map(|state| word(state, PLACE_AT) as usize);
     let errors = read_state(&told.state).expect("it is whole").errors();
     let so = [
-        ("just fits", after > place && after == kind.end() && told.answer != BANK_FULL),
-        ("fills", after - place == kind.end()),
-        ("of 768 bytes or more into", run.bytes.len() >= Kind::Font.end()),
+        ("just fits", after > place && after == end && told.answer != BANK_FULL),
+        ("fills", after - place == end),
+        ("of a font's length or more into", run.bytes.len() >= Kind::Font.end(bits)),
         ("breaks in", after > place && told.answer == BANK_FULL),
         ("sets a bit by", errors != display.errors()),
     ];
     let so = so.iter().filter(|(_, is_so)| *is_so);
-    so.map(|(name, _)| format!("PutRun {name} {kind:?}")).collect()
+    so.map(|(name, _)| format!("PutRun {name} {}", table_name(kind, bits))).collect()
+}
+
+fn table_name(kind: Kind, bits: Bits) -> String {
+    format!("{kind:?} of {}", bits_name(bits))
 }
 
 /// What a run of writes has behind its items, and what its items write.
@@ -72,7 +79,7 @@ fn write_kinds(bytes: &[u8], told: &Told) -> Vec<String> {
     let done: Vec<u8> = items.take(told.done() as usize).map(|item| item[0]).collect();
     let different = BTreeSet::from_iter(&done).len();
     let so = [
-        ("of 768 bytes or more", bytes.len() >= Kind::Font.end()),
+        ("of 768 bytes or more", bytes.len() >= 768),
         ("to one register twice", different < done.len()),
     ];
     kinds.extend(so.iter().filter(|(_, is_so)| *is_so).map(|(name, _)| format!("WriteRun {name}")));
@@ -101,9 +108,11 @@ fn assert_puts(counts: &Counts) {
     assert_came(counts, puts.map(|name| format!("PutRun {name}")), 10);
     let refusals = [0, 3, 4, 5, 6].map(|n| format!("PutRun empty where a put answers {n}"));
     assert_came(counts, refusals, 10);
-    let tables = ["just fits", "fills", "breaks in", "of 768 bytes or more into", "sets a bit by"];
-    for kind in Kind::ALL {
-        assert_came(counts, tables.map(|name| format!("PutRun {name} {kind:?}")), 10);
+    let ends =
+        ["just fits", "fills", "breaks in", "of a font's length or more into", "sets a bit by"];
+    for (kind, bits) in Kind::ALL.into_iter().flat_map(|kind| Bits::ALL.map(|bits| (kind, bits))) {
+        let table = table_name(kind, bits);
+        assert_came(counts, ends.map(|name| format!("PutRun {name} {table}")), 10);
     }
 }
 

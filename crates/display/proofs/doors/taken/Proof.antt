@@ -25,13 +25,17 @@ word-at-requires-4 c κs = search needs
 word-at-requires-5 : tie.Need-word-at-requires-5
 word-at-requires-5 c κs = search needs
 
+word-at-requires-6 : tie.Need-word-at-requires-6
+word-at-requires-6 c κs = search needs
+
 returns : tie.Need-returns
 returns c =
-    taken-all _ _ _ _ _ _ _ _ (c .before .before .before .before .before .before .words-at .ensures)
-    (c .before .before .before .before .before .words-at2 .ensures)
-    (c .before .before .before .before .word-at .ensures) (c .before .before .before .word-at2 .ensures)
-    (c .before .before .word-at3 .ensures)
-    (c .before .word-at4 .ensures) (c .word-at5 .ensures)
+    taken-all _ _ _ _ _ _ _ _ _ (c .before .before .before .before .before .before .before .words-at .ensures)
+    (c .before .before .before .before .before .before .words-at2 .ensures)
+    (c .before .before .before .before .before .word-at .ensures)
+    (c .before .before .before .before .word-at2 .ensures)
+    (c .before .before .before .word-at3 .ensures)
+    (c .before .before .word-at4 .ensures) (c .before .word-at5 .ensures) (c .word-at6 .ensures)
 
 pub taken-spec : {M : Type 1} → statement M
 taken-spec =
@@ -44,4 +48,5 @@ taken-spec =
     word-at-requires-3
     word-at-requires-4
     word-at-requires-5
+    word-at-requires-6
     returns)

@@ -8,7 +8,7 @@ new-requires : tie.Need-new-requires
 new-requires c κs = search needs
 
 returns : tie.Need-returns
-returns c = rw (c .new .ensures) refl
+returns c = rw (c .before .new .ensures) refl
 
 pub first-spec : {M : Type 1} → statement M
 first-spec = tie.close (tie.spec new-requires returns)

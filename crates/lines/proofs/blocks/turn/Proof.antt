@@ -42,7 +42,9 @@ add-t15 c =
     )
 
 add-t19 : tie.Need-add-t19
-add-t19 c = search needs
+add-t19 c =
+    let f = c .before .before .before .before .before .before .before .before .before in
+    omega (arith, f .feed-line .ensures .1 .1 .1 .1, f .before .before .before .before .before .before .before .before .before .pre .1)
 
 same-length : tie.Need-same-length
 same-length c = search needs

@@ -1,4 +1,4 @@
--- `draw_cell` meets its contract: before each turn the bits that are left, drawn over the line,
+-- `draw_mask` meets its contract: before each turn the bits that are left, drawn over the line,
 -- give the whole. The measure is those bits as a number, which a run taken off makes smaller.
 -- Assumes nothing.
 use mathlib.Core.Path.{_≡_, refl, sym, ap, _∙_}
@@ -10,20 +10,21 @@ use lib.ListN.{length}
 use borrow.Author.Needs.{needs}
 use Rattle.lists.specs.Tab.{each}
 use Rattle.lists.proofs.Tab.{length-each}
-use Rattle.draw.specs.Text.{glyphColumns, pixelOf, rowAfter}
+use Rattle.draw.specs.Text.{glyphColumns, rowAfter}
+use Rattle.draw.specs.Engine.Rows.{maskInk}
 use Rattle.text.proofs.BitLaws.{carried, runFrom, runTo, carried-le, beside-lt, zeros-le, zeros-carried-le}
-use Rattle.text.proofs.LineLaws.{cell-done, cell-turn}
-use Rattle.text.proofs.draw_cell.Statement.{statement}
-use Rattle.text.proofs.draw_cell.Tie as tie
+use Rattle.text.proofs.LineLaws.{mask-done, mask-turn}
+use Rattle.text.proofs.draw_mask.Statement.{statement}
+use Rattle.text.proofs.draw_mask.Tie as tie
 
 abbrev Inv-loop : tie.InvT-loop
-Inv-loop line₀ bits z x colour rest₀ line rest =
+Inv-loop line₀ mask z x colour rest₀ line rest =
     (rest < 256)
-    × (each (rowAfter (pixelOf rest) glyphColumns z x colour) line
-    ≡ each (rowAfter (pixelOf bits) glyphColumns z x colour) line₀)
+    × (each (rowAfter (maskInk rest colour) glyphColumns z x) line
+    ≡ each (rowAfter (maskInk mask colour) glyphColumns z x) line₀)
 
 abbrev μ-loop : tie.MeasureT-loop
-μ-loop line₀ bits z x colour rest₀ line rest = rest
+μ-loop line₀ mask z x colour rest₀ line rest = rest
 
 -- how far a place of a bit, a column in pixels can go
 low : (c : tie.In-loop Inv-loop μ-loop) → trailingZeros 64 (c .before .loop .rest) ≤ glyphColumns
@@ -36,17 +37,14 @@ scaled-le : (n z : ℕ) → z ≤ 8 → (glyphColumns - n) * z ≤ 64
 scaled-le n z h = mul-le-mul {n₂ = 8} {m₂ = 8} (omega arith) h
 
 from : (c : tie.In-loop Inv-loop μ-loop)
-    → runFrom (c .before .loop .rest) * c .before .before .before .before .args .z ≤ 64
+    → runFrom (c .before .loop .rest) * c .before .before .before .args .z ≤ 64
 from c = scaled-le _ _ (omega arith)
 
-to : (c : tie.In-loop Inv-loop μ-loop) → runTo (c .before .loop .rest) * c .before .before .before .before .args .z ≤ 64
+to : (c : tie.In-loop Inv-loop μ-loop) → runTo (c .before .loop .rest) * c .before .before .before .args .z ≤ 64
 to c = scaled-le _ _ (omega arith)
 
-wide-requires : tie.Need-wide-requires Inv-loop μ-loop
-wide-requires c κs = search needs
-
 loop-holds : tie.Need-loop-holds Inv-loop μ-loop
-loop-holds c = (omega arith, rw (c .wide .ensures .0) refl)
+loop-holds c = (omega arith, refl)
 
 sub-carried : tie.Need-sub-carried Inv-loop μ-loop
 sub-carried c = search needs
@@ -89,22 +87,21 @@ loop-again c =
     let i = c .before .before .before .before in (
       omega (arith, beside-lt (i .before .loop .rest) (i .loop-test .taken) (i .before .loop .inv .0)),
       search
-          (cell-turn, needs),
+          (mask-turn, needs),
     )
 
 same-length : tie.Need-same-length Inv-loop μ-loop
 same-length c = sym (length-each _ _) ∙ ap length (c .before .loop .inv .1) ∙ length-each _ _
 
 returns : tie.Need-returns Inv-loop μ-loop
-returns c = search (cell-done, needs)
+returns c = search (mask-done, needs)
 
-pub draw-cell-spec : {M : Type 1} → statement M
-draw-cell-spec =
+pub draw-mask-spec : {M : Type 1} → statement M
+draw-mask-spec =
     tie.close
     (tie.spec
     Inv-loop
     μ-loop
-    wide-requires
     loop-holds
     sub-carried
     add-carried

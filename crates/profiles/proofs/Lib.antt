@@ -1,0 +1,3 @@
+-- The laws that the crates above cite. Assumes nothing.
+pub mod ProfileLaws
+pub mod Unique

@@ -1,0 +1,2 @@
+-- What `src/lib.rt` promises. Assumes nothing.
+pub mod Profile
