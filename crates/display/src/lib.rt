@@ -3,7 +3,8 @@
 ghost use mathlib.Core.Path.{_≡_};
 ghost use Rattle.profiles.specs.Profile.{profileOf};
 ghost use Rattle.words.specs.Fields.{widthOf, heightOf};
-ghost use Rattle.display.specs.State.{fresh, told, withFrame, withErrors, withPlace, newOf, writeOf, selectOf, toggleOf, startOf};
+ghost use Rattle.display.specs.State.{fresh, withFrame, withErrors, withPlace, told};
+ghost use Rattle.display.specs.State.{newOf, writeOf, selectOf, toggleOf, startOf};
 ghost use Rattle.display.specs.Put.{putOf, putTables};
 ghost use Rattle.display.specs.Runs.{ran, toldBy, putRunOf, putRunTables, writeRunOf};
 ghost use Rattle.display.specs.Paint.{fillTold, fillBytes, paintTold, paintBytes, frameTold, frameBytes};
@@ -191,8 +192,9 @@ impl Display {
     }
 
     // Stores a byte in the selected table and goes on to the next place. Refused, in this order, with 6
-    // where `tables` is not as long as the display's bits a glyph pixel ask, 3 where nothing is selected, 4 where the active words name
-    // the bank, and 5 at the table's end, which sets an error bit; else a refusal changes nothing.
+    // where `tables` is not as long as the display's bits a glyph pixel ask, 3 where nothing is selected,
+    // 4 where the active words name the bank, and 5 at the table's end, which sets an error bit; else a
+    // refusal changes nothing.
     pub fn put(self, tables: &mut [u8], byte: u8) -> Told
         ensures state { λ r. ⌜ r ≡ putOf self (now (tables .entry)) ⌝ }
         ensures tables { λ _. ⌜ now (tables .exit) ≡ putTables self (now (tables .entry)) byte ⌝ }

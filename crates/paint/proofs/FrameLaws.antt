@@ -1,6 +1,6 @@
--- A filled output, a band, and the cases of the calls. Assumes nothing.
+-- A filled output, a band, and the cases of a painting. Assumes nothing.
 use mathlib.Core.Path.{_≡_, refl, sym, ap, ap₂, _∙_}
-use mathlib.Core.Bool.{false}
+use mathlib.Core.Bool.{Bool, false}
 use mathlib.Core.List.{List, [], _∷_}
 use Prim.Native.Nat.{ℕ, zero, suc, _%_, _≤_, _<_}
 use native.Mathlib.Omega.{arith}
@@ -8,7 +8,7 @@ use borrow.Author.Tests.{eq-eqb, ne-eqb}
 use lib.Dec.{eqb}
 use lib.ListN.{length, getD}
 use lib.Seq.{take-all}
-use Rattle.lists.specs.Choice.{pick}
+use Rattle.lists.specs.Choice.{pick, choose}
 use Rattle.lists.specs.Tab.{tab}
 use Rattle.lists.specs.Steps.{through}
 use Rattle.lists.proofs.Tab.{tab-cong}
@@ -21,11 +21,11 @@ use Rattle.frames.specs.Scene.{Scene}
 use Rattle.frames.proofs.CallerLaws.{Fits}
 use Rattle.frames.specs.Band.{markAt, bandBy, bandOf, errorsOf}
 use Rattle.frames.specs.Frame.{frameLen, fillRefusal, refusalOf, fillByte, fillOf}
-use Rattle.frames.specs.Frame.{fillAfter, paintAfter, errorsAfter, frameOf, frameAfter}
+use Rattle.frames.specs.Frame.{fillAfter, errorsAfter}
 use Rattle.frames.proofs.BandLaws.{band-through}
 use Rattle.plan.specs.Engine.Plan.{Planned, markedTo}
 use Rattle.scanline.specs.Engine.Lines.{Lent}
-use Rattle.paint.specs.Painted.{answered}
+use Rattle.paint.specs.Painted.{answered, toldOf, outputOf}
 use Rattle.plan.proofs.PlanLaws.{marks-is}
 
 pub fits-lent : (s : Scene) (a b out : ℕ)
@@ -78,37 +78,18 @@ pub off-band : (s : Scene) (a b e : ℕ) (out : List ℕ) → shownOf (s .words)
 unfolding errorsOf bandOf
 off-band s a b e out t = (rw t, rw t)
 
--- ---- the calls
+-- ---- a painting: refused, or done
 
-module _ (s : Scene) (a b : ℕ) (out : List ℕ) (answer errors : ℕ) (e : answer ≡ refusalOf s a b out) where
-  abbrev Told : ℕ → ℕ → Type 0
-  Told told marks = answered told marks ≡ answered (refusalOf s a b out) (errorsAfter s a b out errors)
+module _ (s : Scene) (a b : ℕ) (fresh : Bool) (out : List ℕ) (answer errors : ℕ) (e : answer ≡ refusalOf s a b out) where
+  abbrev Painted : ℕ → ℕ → List ℕ → Type 0
+  Painted told marks out′ = (answered told marks ≡ toldOf s a b out errors) × (out′ ≡ outputOf s a b fresh out)
 
-  told-refused : (answer ≡ 0 → ⊥) → Told answer errors
+  pub paint-refused : (answer ≡ 0 → ⊥) → Painted answer errors out
   unfolding errorsAfter
-  told-refused ne = rw (← e, ne-eqb answer 0 ne)
+  paint-refused ne = (rw (← e, ne-eqb answer 0 ne), rw (← e, ne-eqb answer 0 ne))
 
-  told-done : (marks : ℕ) → answer ≡ 0 → marks ≡ errorsOf s a b errors → Told 0 marks
+  pub paint-done : (marks : ℕ) (out′ : List ℕ) → answer ≡ 0 → marks ≡ errorsOf s a b errors
+      → out′ ≡ bandOf s a b (choose fresh (fillOf (s .words)) out) → Painted 0 marks out′
   unfolding errorsAfter
-  told-done marks z m = rw (← e, eq-eqb answer 0 z) (ap₂ answered (sym z) m)
-
-  pub paint-refused : (answer ≡ 0 → ⊥) → Told answer errors × (out ≡ paintAfter s a b out)
-  unfolding paintAfter
-  paint-refused ne = (told-refused ne, rw (← e, ne-eqb answer 0 ne))
-
-  pub paint-done : (marks : ℕ) (out′ : List ℕ) → answer ≡ 0 → marks ≡ errorsOf s a b errors → out′ ≡ bandOf s a b out
-      → Told 0 marks × (out′ ≡ paintAfter s a b out)
-  unfolding paintAfter
-  paint-done marks out′ z m f = (told-done marks z m, rw (← e, eq-eqb answer 0 z) f)
-
-module _ (s : Scene) (out : List ℕ) (answer errors : ℕ) (e : answer ≡ refusalOf s 0 8 out) where
-  pub frame-refused : (answer ≡ 0 → ⊥) → Told s 0 8 out answer errors e answer errors × (out ≡ frameAfter s out)
-  unfolding frameAfter
-  frame-refused ne = (told-refused s 0 8 out answer errors e ne, rw (← e, ne-eqb answer 0 ne))
-
-  pub frame-done : (marks : ℕ) (filled out′ : List ℕ) → answer ≡ 0 → marks ≡ errorsOf s 0 8 errors
-      → filled ≡ fillOf (s .words)
-      → out′ ≡ bandOf s 0 8 filled → Told s 0 8 out answer errors e 0 marks × (out′ ≡ frameAfter s out)
-  unfolding frameAfter frameOf
-  frame-done marks filled out′ z m g f =
-      (told-done s 0 8 out answer errors e marks z m, rw (← e, eq-eqb answer 0 z) (f ∙ ap (bandOf s 0 8) g))
+  paint-done marks out′ z m f =
+      (rw (← e, eq-eqb answer 0 z) (ap₂ answered (sym z) m), rw (← e, eq-eqb answer 0 z) f)

@@ -9,7 +9,7 @@ ghost use Rattle.frames.specs.Scene.{sceneOf};
 ghost use Rattle.frames.specs.Band.{bandOf, errorsOf};
 ghost use Rattle.frames.specs.Frame.{frameLen, fillOf, fillRefusal, fillAfter, paintAfter, frameAfter};
 ghost use Rattle.scanline.specs.Engine.Lines.{Lent};
-ghost use Rattle.paint.specs.Painted.{toldOf};
+ghost use Rattle.paint.specs.Painted.{toldOf, outputOf};
 use crate::rows::paint_rows;
 use answers::DONE;
 use plan::marks_of;
@@ -77,8 +77,54 @@ fn paint_band(
     marks_of(plan, errors)
 }
 
-// Paints the layers of depths from `low` up to but not `high` over what `out` holds. Refused with 15, 12,
-// 13, 6, 14 in this order; a refusal changes nothing.
+// The band's layers over the ground, where `fresh`, or over what `out` holds. Refused with 15, 12, 13, 6, 14 in
+// this order; a refusal changes nothing.
+fn checked_band(
+    profile: Profile,
+    w: &[u32; 52],
+    frame: u32,
+    errors: u32,
+    low: u32,
+    high: u32,
+    fresh: bool,
+    tables: &[u8],
+    pictures: &[u8],
+    out: &mut [u8],
+) -> Painted
+    ensures told { λ r. ⌜ r ≡ toldOf
+        (sceneOf profile (now (w .entry)) frame (now (tables .entry)) (now (pictures .entry)))
+        low high (now (out .entry)) errors ⌝ }
+    ensures output { λ _. ⌜ now (out .exit) ≡ outputOf
+        (sceneOf profile (now (w .entry)) frame (now (tables .entry)) (now (pictures .entry)))
+        low high fresh (now (out .entry)) ⌝ }
+{
+    let bits = bits_of(profile);
+    let refusal = paint_refusal(bits, w, low, high, out.len(), tables.len(), pictures.len());
+    if refusal != DONE {
+        return Painted {
+            answer: refusal,
+            errors: errors,
+        };
+    }
+    let marks = paint_band(
+        profile,
+        w,
+        frame,
+        errors,
+        low,
+        high,
+        fresh,
+        tables,
+        pictures,
+        out,
+    );
+    Painted {
+        answer: DONE,
+        errors: marks,
+    }
+}
+
+// Paints the layers of depths from `low` up to but not `high` over what `out` holds.
 pub fn band(
     profile: Profile,
     w: &[u32; 52],
@@ -96,15 +142,7 @@ pub fn band(
     ensures output { λ _. ⌜ now (out .exit) ≡ paintAfter
         (sceneOf profile (now (w .entry)) frame (now (tables .entry)) (now (pictures .entry))) low high (now (out .entry)) ⌝ }
 {
-    let bits = bits_of(profile);
-    let refusal = paint_refusal(bits, w, low, high, out.len(), tables.len(), pictures.len());
-    if refusal != DONE {
-        return Painted {
-            answer: refusal,
-            errors: errors,
-        };
-    }
-    let marks = paint_band(
+    checked_band(
         profile,
         w,
         frame,
@@ -115,11 +153,7 @@ pub fn band(
         tables,
         pictures,
         out,
-    );
-    Painted {
-        answer: DONE,
-        errors: marks,
-    }
+    )
 }
 
 // Paints a whole frame: a fill, and the layers of every depth. Refused as a band is, before the fill.
@@ -137,15 +171,7 @@ pub fn frame(
     ensures output { λ _. ⌜ now (out .exit) ≡ frameAfter
         (sceneOf profile (now (w .entry)) frame (now (tables .entry)) (now (pictures .entry))) (now (out .entry)) ⌝ }
 {
-    let bits = bits_of(profile);
-    let refusal = paint_refusal(bits, w, 0, DEPTHS, out.len(), tables.len(), pictures.len());
-    if refusal != DONE {
-        return Painted {
-            answer: refusal,
-            errors: errors,
-        };
-    }
-    let marks = paint_band(
+    checked_band(
         profile,
         w,
         frame,
@@ -156,9 +182,5 @@ pub fn frame(
         tables,
         pictures,
         out,
-    );
-    Painted {
-        answer: DONE,
-        errors: marks,
-    }
+    )
 }

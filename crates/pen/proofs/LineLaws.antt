@@ -31,48 +31,60 @@ boxed op = either (eqb op 10) (eqb op 14)
 abbrev lettered : ℕ → Bool
 lettered op = either (eqb op 12) (eqb op 14)
 
-module _ (op : ℕ) where
-  pub parts-none : (op ≡ 10 → ⊥) → (op ≡ 12 → ⊥) → (op ≡ 14 → ⊥) → (false ≡ boxed op) × (false ≡ lettered op)
-  parts-none a b c = rw (ne-eqb _ 10 a, ne-eqb _ 12 b, ne-eqb _ 14 c) (refl, refl)
+module _ (ins : List ℕ) (k v op : ℕ) (l : List ℕ) where
+  -- what an instruction's box leaves, if it has one
+  abbrev under : ℕ → ℕ → ℕ
+  under u old = pick (boxed op) (boxOf ins k v u old) old
 
-  pub parts-other : (op ≡ 11) ⊎ (op ≡ 13) → (false ≡ boxed op) × (false ≡ lettered op)
-  parts-other o = ⊎-elim (λ (e : op ≡ 11). rw e (refl, refl)) (λ (e : op ≡ 13). rw e (refl, refl)) o
+  -- the line with the box, and whether text is to come
+  abbrev pub Under : List ℕ → Bool → Type 0
+  Under l′ text = (l′ ≡ each under l) × (text ≡ lettered op)
 
--- what an instruction's box leaves, if it has one
-abbrev pub under : Bool → List ℕ → ℕ → ℕ → ℕ → ℕ → ℕ
-under box ins k v u old = pick box (boxOf ins k v u old) old
+  module _ {l′ : List ℕ} {text : Bool} where
+    pub under-box : {l″ : List ℕ} → op ≡ 10 → l″ ≡ each (boxOf ins k v) l → l′ ≡ l″ → text ≡ false → Under l′ text
+    under-box e b q t = (rw e (q ∙ b), rw e t)
 
-module _ (ins : List ℕ) (k v : ℕ) (l : List ℕ) (box : Bool) where
-  pub under-box : {l′ l″ : List ℕ} → box ≡ true → l′ ≡ each (boxOf ins k v) l → l″ ≡ l′ → l″ ≡ each (under box ins k v) l
-  under-box b e e′ = rw b (e′ ∙ e)
+    pub under-both : {l″ : List ℕ} → op ≡ 14 → l″ ≡ each (boxOf ins k v) l → l′ ≡ l″ → text ≡ true → Under l′ text
+    under-both e b q t = (rw e (q ∙ b), rw e t)
 
-  pub under-none : {l′ : List ℕ} → box ≡ false → l′ ≡ l → l′ ≡ each (under box ins k v) l
-  under-none b e = e ∙ each-id _ l (λ u old. rw b)
+    pub under-text : op ≡ 12 → l′ ≡ l → text ≡ true → Under l′ text
+    under-text e q t = (q ∙ each-id _ l (λ u old. rw e), rw e t)
 
-module _ (bits : ℕ) (ins strings font : List ℕ) (k v op : ℕ) (l : List ℕ) (eo : op ≡ opcode ins k)
-    (box text : Bool) (eb : box ≡ boxed op) (et : text ≡ lettered op) where
+    pub under-none : (op ≡ 10 → ⊥) → (op ≡ 12 → ⊥) → (op ≡ 14 → ⊥) → l′ ≡ l → text ≡ false → Under l′ text
+    under-none a b c q t = (
+      q ∙ each-id _ l (λ u old. rw (ne-eqb _ 10 a, ne-eqb _ 14 c)),
+      t ∙ rw (ne-eqb _ 12 b, ne-eqb _ 14 c),
+    )
+
+    pub under-other : (op ≡ 11) ⊎ (op ≡ 13) → l′ ≡ l → text ≡ false → Under l′ text
+    under-other o = ⊎-elim
+        (λ (e : op ≡ 11). under-none (λ h. omega arith) (λ h. omega arith) (λ h. omega arith))
+        (λ (e : op ≡ 13). under-none (λ h. omega arith) (λ h. omega arith) (λ h. omega arith))
+        o
+
+module _ (bits : ℕ) (ins strings font : List ℕ) (k v op : ℕ) (l : List ℕ) (eo : op ≡ opcode ins k) where
   -- the box, and then the text
   drawn-is : (u old : ℕ) → drawnBy bits ins strings font k v u old
-      ≡ pick text (textOf bits ins strings font k v u (under box ins k v u old)) (under box ins k v u old)
+      ≡ pick (lettered op) (textOf bits ins strings font k v u (under ins k v op l u old)) (under ins k v op l u old)
   unfolding drawnBy
   drawn-is u old = ⊎-elim
-      (λ (e : op ≡ 10). rw (eb, et, ← eo, e))
+      (λ (e : op ≡ 10). rw (← eo, e))
       (λ (a : op ≡ 10 → ⊥). ⊎-elim
-      (λ (e : op ≡ 12). rw (eb, et, ← eo, e))
+      (λ (e : op ≡ 12). rw (← eo, e))
       (λ (b : op ≡ 12 → ⊥). ⊎-elim
-      (λ (e : op ≡ 14). rw (eb, et, ← eo, e))
-      (λ (c : op ≡ 14 → ⊥). rw (eb, et, ← eo, ne-eqb _ 10 a, ne-eqb _ 12 b, ne-eqb _ 14 c))
+      (λ (e : op ≡ 14). rw (← eo, e))
+      (λ (c : op ≡ 14 → ⊥). rw (← eo, ne-eqb _ 10 a, ne-eqb _ 12 b, ne-eqb _ 14 c))
       (same-or op 14))
       (same-or op 12))
       (same-or op 10)
 
-  pub one-text : {l′ l″ : List ℕ} → text ≡ true → l′ ≡ each (under box ins k v) l
+  pub one-text : {l′ l″ : List ℕ} {text : Bool} → Under ins k v op l l′ text → text ≡ true
       → l″ ≡ each (textOf bits ins strings font k v) l′ → l″ ≡ each (drawnBy bits ins strings font k v) l
-  one-text t e e′ = each-then _ _ _ l e e′ (λ u old. drawn-is u old ∙ rw t)
+  one-text u t e = each-then _ _ _ l (u .0) e (λ i old. drawn-is i old ∙ rw (sym (u .1) ∙ t))
 
-  pub one-plain : {l′ : List ℕ} → text ≡ false → l′ ≡ each (under box ins k v) l
+  pub one-plain : {l′ : List ℕ} {text : Bool} → Under ins k v op l l′ text → text ≡ false
       → l′ ≡ each (drawnBy bits ins strings font k v) l
-  one-plain t e = e ∙ each-cong _ _ l (λ u old. sym (drawn-is u old ∙ rw t))
+  one-plain u t = u .0 ∙ each-cong _ _ l (λ i old. sym (drawn-is i old ∙ rw (sym (u .1) ∙ t)))
 
 -- ---- a list
 

@@ -2,9 +2,7 @@
 // colours or frames.
 ghost use mathlib.Core.Path.{_≡_};
 ghost use Prim.Native.Nat.{_<_};
-ghost use lib.Dec.{eqb};
 ghost use lib.ListN.{length};
-ghost use Rattle.lists.specs.Choice.{either};
 ghost use Rattle.lists.specs.Tab.{tab, each};
 ghost use Rattle.tables.specs.Geometry.{instructions};
 ghost use Rattle.draw.specs.Drawing.{drawnBy, countOf, indexAt};
@@ -13,40 +11,6 @@ use boxes::draw_box;
 use draw::instruction::opcode;
 use draw::runs::fill_run;
 use text::draw_text;
-
-// What an instruction draws; of both, the box first.
-struct Parts {
-    boxed: bool,
-    text: bool,
-}
-
-// By its opcode.
-fn parts_of(op: usize) -> Parts
-    ensures { λ r. ⌜ (r .boxed ≡ either (eqb op 10) (eqb op 14)) × (r .text ≡ either (eqb op 12) (eqb op 14)) ⌝ }
-{
-    match op {
-        10 => Parts {
-            boxed: true,
-            text: false,
-        },
-        12 => Parts {
-            boxed: false,
-            text: true,
-        },
-        14 => Parts {
-            boxed: true,
-            text: true,
-        },
-        0..=9 | 11 | 13 => Parts {
-            boxed: false,
-            text: false,
-        },
-        _ => Parts {
-            boxed: false,
-            text: false,
-        },
-    }
-}
 
 // Row v of instruction k, over what the line holds. Text is called from here alone: it then becomes a part of
 // the loop over the lines, where a line beside it costs no call.
@@ -63,11 +27,20 @@ fn draw_one(
     ensures { λ _. ⌜ now (line .exit)
         ≡ each (drawnBy bits (now (ins .entry)) (now (strings .entry)) (now (font .entry)) k v) (now (line .entry)) ⌝ }
 {
-    let parts = parts_of(opcode(ins, k));
-    if parts.boxed {
-        draw_box(line, ins, k, v);
-    }
-    if parts.text {
+    let text = match opcode(ins, k) {
+        10 => {
+            draw_box(line, ins, k, v);
+            false
+        }
+        12 => true,
+        14 => {
+            draw_box(line, ins, k, v);
+            true
+        }
+        0..=9 | 11 | 13 => false,
+        _ => false,
+    };
+    if text {
         draw_text(line, bits, ins, strings, font, k, v);
     }
 }
