@@ -45,7 +45,6 @@ void print_bytes(void)
            (unsigned)SDL2.tolerance, (unsigned)PIXMAN_STRAIGHT.tolerance);
     printf("| Scene | spoonwing_frame | SDL2 | pixman straight | pixman premultiplied |\n"
            "|---|---|---|---|---|\n");
-    for (int i = 0; i < SIZES * SUBJECTS; i++)
-        print_row(&SUBJECT[i % SUBJECTS], &SIZE[i / SUBJECTS]);
+    each_subject(print_row);
     printf("\n");
 }

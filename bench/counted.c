@@ -1,6 +1,6 @@
 /* Paintings for an emulator that logs what is executed: the subjects at the smaller size, each step
- * of growth at a quarter of its width and height, text at the smaller size; and a kept display's
- * calls and loads. */
+ * of growth at a quarter of its width and height, text and frames by lines at the smaller size; and
+ * a kept display's calls and loads. */
 #define _XOPEN_SOURCE 700
 #include <stdio.h>
 #include <stdlib.h>
@@ -9,6 +9,7 @@
 
 #include "growth.h"
 #include "kept.h"
+#include "lines.h"
 #include "loads.h"
 #include "report.h"
 #include "run.h"
@@ -69,6 +70,16 @@ static void paint_text(enum scale scale, const struct size *size)
     }
 }
 
+static void paint_lines(const struct subject *subject, const struct size *size)
+{
+    struct scene *scene = subject->make(size->width, size->height);
+    dprintf(STDOUT_FILENO, "lines\t%s, %u x %u\t%u\n", subject->name, (unsigned)size->width,
+            (unsigned)size->height, (unsigned)size->height);
+    paint_marked(&BY_LINES, scene);
+    paint_marked(&BY_FRAME, scene);
+    drop_scene(scene);
+}
+
 /* Marks the second doing of two, as with paintings. */
 static void do_marked(doing *doing, struct kept *kept, int what, int ways)
 {
@@ -101,6 +112,8 @@ void paint_counted(void)
         paint_growth(&GROWTH[i]);
     for (int i = 0; i < SCALES; i++)
         paint_text(i, &SIZE[SIZES - 1]);
+    for (int i = 0; i < SUBJECTS; i++)
+        paint_lines(&SUBJECT[i], &SIZE[SIZES - 1]);
     for (int i = 0; i < WORKS; i++)
         work_marked(i);
     for (int i = 0; i < LOADS; i++)

@@ -26,12 +26,14 @@ int main(int count, char **words)
     }
     print_bytes();
     check_text();
+    check_lines();
     check_calls();
     print_stack();
     if (!is_bytes) {
         print_ratios();
         print_growth();
         print_text();
+        print_lines();
         print_calls();
         print_loads();
     }

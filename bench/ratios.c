@@ -53,8 +53,7 @@ void print_ratios(void)
            "in brackets the most that is wanted.\n\n"
            "| Scene | to plain C -O3 | to SDL2 | to pixman straight | to pixman premultiplied "
            "| to the floor | ms |\n|---|---|---|---|---|---|---|\n");
-    for (int i = 0; i < SIZES * SUBJECTS; i++)
-        print_row(&SUBJECT[i % SUBJECTS], &SIZE[i / SUBJECTS]);
+    each_subject(print_row);
     printf("\n");
     print_list(&SIZE[0]);
 }

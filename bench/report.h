@@ -5,7 +5,7 @@
 /* Compares each painter's bytes with the formula's, and ends the program where they are wrong. */
 void print_bytes(void);
 
-/* How deep spoonwing_frame reaches into the stack. */
+/* How deep spoonwing_frame and spoonwing_display_line reach into the stack. */
 void print_stack(void);
 
 /* spoonwing_frame's time as a part of each other painter's. */
@@ -20,6 +20,12 @@ void check_text(void);
 /* The time of text of two bits as a multiple of that of one. */
 void print_text(void);
 
+/* Compares each line of a kept display with the frame's, likewise. */
+void check_lines(void);
+
+/* The time of a frame by lines as a multiple of the whole frame's. */
+void print_lines(void);
+
 /* Compares what a kept display's calls and loads leave with a plain struct's, likewise. */
 void check_calls(void);
 
@@ -30,9 +36,9 @@ void print_calls(void);
 void print_loads(void);
 
 /* Paints and calls for an emulator that logs what is executed. Among the log stand a line for each
- * row, its table, its name, for ratios its pixels, for text the most that is wanted, and for calls
- * and loads their number, with tabs between, and around each painting, each side's calls and each
- * way's loads of the row the lines "begin" and "end". */
+ * row, its table, its name, for ratios its pixels, for text the most that is wanted, and for lines,
+ * calls and loads their number, with tabs between, and around each painting, each side's calls and
+ * each way's loads of the row the lines "begin" and "end". */
 void paint_counted(void);
 
 /* A cell with a number and, where one is wanted, the most that it may be. */

@@ -16,10 +16,17 @@ struct subject {
     /* The most that spoonwing_frame's time may be, as a part of each painter's; 0 where nothing is
      * asked. */
     double wanted[PAINTERS];
+    /* The most that a frame by lines may take at the larger size, as a multiple of the whole frame;
+     * 0 where nothing is asked. */
+    double lines_wanted;
 };
 
 extern const struct size SIZE[SIZES];
 extern const struct subject SUBJECT[SUBJECTS];
+
+/* Does something with every subject at every size, the larger size first. */
+typedef void subject_work(const struct subject *subject, const struct size *size);
+void each_subject(subject_work *work);
 
 /* spoonwing_frame first, then those that it is compared with, the floor last. */
 extern const struct painter *const PAINTER[PAINTERS];

@@ -56,6 +56,12 @@ void set_colour(struct bank *bank, int index, const uint8_t colour[COLOUR_LENGTH
     memcpy(bank->bytes + COLOURS_AT + COLOUR_LENGTH * index, colour, COLOUR_LENGTH);
 }
 
+void set_palette(struct bank *bank, const uint8_t (*colours)[COLOUR_LENGTH], int count)
+{
+    for (int i = 0; i < count; i++)
+        set_colour(bank, i, colours[i]);
+}
+
 static uint8_t *next_instruction(struct bank *bank)
 {
     assert(bank->instructions < INSTRUCTIONS);

@@ -55,8 +55,9 @@ uint32_t table_at(uint32_t kind, int bits);
  * the list ends after the last instruction put (0 is END) and a string after its last character. */
 struct bank first_bank(uint8_t *tables, int controller, int bits);
 
-/* Colour 0 is what every pixel of the layer begins with. */
+/* A colour, or so many from the first on. Colour 0 is what every pixel of the layer begins with. */
 void set_colour(struct bank *bank, int index, const uint8_t colour[COLOUR_LENGTH]);
+void set_palette(struct bank *bank, const uint8_t (*colours)[COLOUR_LENGTH], int count);
 
 /* A box by its corner and size: filled with weight 0, else an outline as thick as the weight. */
 void draw_box(struct bank *bank, uint32_t x, uint32_t y, uint32_t width, uint32_t height,

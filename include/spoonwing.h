@@ -52,9 +52,10 @@ extern "C" {
  *   display_fill        23, 12, 13
  *   display_paint       23, 15, 12, 13, 6, 14
  *   display_frame       23, 12, 13, 6, 14
+ *   display_line        23, 12, 15, 13, 6, 14
  *
  * 9 and 10 are asked of each enabled layer in turn, from layer 0 to layer 7, before 11. Disabled
- * layers are looked at for 7 only. */
+ * layers are looked at for 7 only. 15 has two names, one for a band and one for a line. */
 enum spoonwing_answer {
     SPOONWING_DONE = 0,                  /* done */
     SPOONWING_NO_REGISTER = 1,           /* the register is above 51 */
@@ -69,9 +70,10 @@ enum spoonwing_answer {
     SPOONWING_OFF_SCREEN = 10,           /* an enabled layer does not lie on the screen */
     SPOONWING_SAME_DEPTH = 11,           /* two enabled layers have one depth */
     SPOONWING_NO_SIZE = 12,              /* no start has given the screen a size yet */
-    SPOONWING_BAD_OUTPUT_LENGTH = 13,    /* the output is not 4 * width * height bytes */
+    SPOONWING_BAD_OUTPUT_LENGTH = 13,    /* not 4 * width * height bytes, of a line 4 * width */
     SPOONWING_BAD_PICTURES_LENGTH = 14,  /* the pictures have the wrong total length */
     SPOONWING_NO_BAND = 15,              /* the low end is above the high one, or that above 8 */
+    SPOONWING_NO_LINE = 15,              /* the line is at or past the height */
     SPOONWING_BAD_IMAGE_LENGTH = 16,     /* the register image is not 208 bytes */
     SPOONWING_BAD_GLYPH_BITS = 17,       /* a glyph pixel has neither 1 nor 2 bits */
     SPOONWING_BAD_STATE_LENGTH = 23      /* the state is not 440 bytes */
@@ -94,9 +96,11 @@ static inline const char *spoonwing_refusal(uint32_t answer)
     case SPOONWING_OFF_SCREEN: return "a layer leaves the screen: move it, shrink it or disable it";
     case SPOONWING_SAME_DEPTH: return "two layers have one depth: give each its own";
     case SPOONWING_NO_SIZE: return "the screen has no size yet: start with the update bit set";
-    case SPOONWING_BAD_OUTPUT_LENGTH: return "wrong output: lend 4 * width * height bytes";
+    case SPOONWING_BAD_OUTPUT_LENGTH:
+        return "wrong output: lend 4 * width * height bytes, for a line 4 * width";
     case SPOONWING_BAD_PICTURES_LENGTH: return "wrong pictures: lend all enabled frame layers'";
-    case SPOONWING_NO_BAND: return "no such band: paint from low to high with low <= high <= 8";
+    case SPOONWING_NO_BAND: /* and SPOONWING_NO_LINE */
+        return "no such band or line: paint with low <= high <= 8, or a line below the height";
     case SPOONWING_BAD_IMAGE_LENGTH: return "wrong register image: lend 208 bytes";
     case SPOONWING_BAD_GLYPH_BITS: return "wrong bits a glyph pixel: make the state with 1 or 2";
     case SPOONWING_BAD_STATE_LENGTH: return "wrong state: lend 440 bytes";
@@ -157,7 +161,8 @@ uint32_t spoonwing_frame(const uint8_t *image, size_t image_length,
  *
  * A display is a state of 440 bytes that the host owns and lends to each call, beside its tables. A
  * state is made for one bit a glyph pixel or for two, and takes tables of that length alone.
- * examples/caption.c is a host that keeps one display, and examples/letters.c keeps two.
+ * examples/caption.c is a host that keeps one display, examples/letters.c keeps two, and
+ * examples/hall.c has no buffer for the frame and paints it line by line.
  *
  * Registers are written at any time and wait as pending ones; a start whose pending update bit is
  * set makes them the active ones, all at once, and painting goes by those. Tables have two banks of
@@ -247,14 +252,30 @@ uint32_t spoonwing_display_frame(uint8_t *state, size_t state_length,
                                  const uint8_t *pictures, size_t pictures_length,
                                  uint8_t *output, size_t output_length);
 
+/* Paints one line of the whole frame, for a host that has no room for all of it.
+ *
+ * y         the line, 0 being the uppermost. At or past the height it is refused with 15.
+ * tables    and pictures: those of the whole frame, whichever line it is.
+ * output    4 * width bytes, the line alone. What it held does not count. The alpha bytes become
+ *           255.
+ *
+ * The bytes are those that the frame has there, and the error bits are those that the frame sets,
+ * also of layers that the line does not meet. So all lines, in any order and each at least once,
+ * with no other call between, are the frame and leave the state that it leaves. With the display
+ * off a line is background and sets no bit. No memory is taken but stack, less than 32 KiB. */
+uint32_t spoonwing_display_line(uint8_t *state, size_t state_length, uint32_t y,
+                                const uint8_t *tables, size_t tables_length,
+                                const uint8_t *pictures, size_t pictures_length,
+                                uint8_t *output, size_t output_length);
+
 /* Turns the error word's bits over where `bits` has a 1: a set one is cleared and a clear one is
  * set, so the word itself as `bits` clears it. */
 uint32_t spoonwing_display_toggle(uint8_t *state, size_t state_length, uint32_t bits);
 
-/* Reads. In the error word bit 4n says that a list of layer n without END was painted, and bit
- * 4g + 1 that a table of controller g was full at a put; bits stay until they are toggled. The size
- * is that of the active registers, and 0 before the first start that passes. Of a state that is not
- * 440 bytes each read gives 0. */
+/* Reads. In the error word bit 4n says that a frame, a line or a band was painted with a list of
+ * layer n without END, and bit 4g + 1 that a table of controller g was full at a put; bits stay
+ * until they are toggled. The size is that of the active registers, and 0 before the first start
+ * that passes. Of a state that is not 440 bytes each read gives 0. */
 uint32_t spoonwing_display_error_word(const uint8_t *state, size_t state_length);
 uint32_t spoonwing_display_frame_number(const uint8_t *state, size_t state_length);
 uint32_t spoonwing_display_output_width(const uint8_t *state, size_t state_length);

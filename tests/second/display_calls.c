@@ -20,8 +20,8 @@ enum { STATE, TABLES, PICTURES, OUTPUT, RUN, COUNT, BUFFERS };
 enum { DOOR, FIRST, SECOND, NULL_IF_EMPTY, LENGTHS, PAST = LENGTHS + BUFFERS,
        NUMBERS = PAST + BUFFERS };
 
-enum { NEW, WRITE, SELECT, TOGGLE, START, PUT, FILL, PAINT, FRAME, PUT_RUN, WRITE_RUN, ERROR_WORD,
-       FRAME_NUMBER, OUTPUT_WIDTH, OUTPUT_HEIGHT, STORE, BEGIN };
+enum { NEW, WRITE, SELECT, TOGGLE, START, PUT, FILL, PAINT, FRAME, LINE, PUT_RUN, WRITE_RUN,
+       ERROR_WORD, FRAME_NUMBER, OUTPUT_WIDTH, OUTPUT_HEIGHT, STORE, BEGIN };
 
 /* What each buffer's owner has, and where copies of it are lent, between guards. */
 static uint8_t owned[BUFFERS][ROOM], space[BUFFERS][ROOM + 2 * (GUARD + ALIGNMENT)];
@@ -121,6 +121,9 @@ static uint32_t call(const uint32_t *n, const struct lent *lent, uint8_t *const 
     case FRAME:
         return spoonwing_display_frame(state, length, tables, tables_length, pictures,
                                        pictures_length, out, out_length);
+    case LINE:
+        return spoonwing_display_line(state, length, n[FIRST], tables, tables_length, pictures,
+                                      pictures_length, out, out_length);
     case PUT_RUN:
         return spoonwing_display_put_run(state, length, tables, tables_length, at[RUN], run_length,
                                          done);
@@ -133,10 +136,12 @@ static uint32_t call(const uint32_t *n, const struct lent *lent, uint8_t *const 
     }
 }
 
+/* Most calls leave all bytes, which is soon seen. */
 static void tell_changes(const struct lent *lent, const uint8_t *before)
 {
     uint32_t changes = 0;
-    for (size_t i = 0; i < lent->length; i++)
+    int is_same = lent->length == 0 || memcmp(lent->bytes, before, lent->length) == 0;
+    for (size_t i = 0; !is_same && i < lent->length; i++)
         changes += lent->bytes[i] != before[i];
     tell_number(changes);
     for (size_t i = 0; changes > 0; i++)

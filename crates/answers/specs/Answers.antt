@@ -65,6 +65,10 @@ picturesLength = 14
 abbrev pub noBand : ℕ
 noBand = 15
 
+-- 02 K3: "15 for a line number at or past the height"
+abbrev pub noLine : ℕ
+noLine = noBand
+
 -- "host entry: register image not 208 bytes"
 abbrev pub imageLength : ℕ
 imageLength = 16

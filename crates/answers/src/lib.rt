@@ -21,7 +21,7 @@ pub const BANK_ACTIVE: u8 = 4;
 // Put: the place is at the kind's end.
 pub const BANK_FULL: u8 = 5;
 
-// Put, paint: the tables are not as long as the state's bits a glyph pixel ask.
+// Put, paint, line: the tables are not as long as the state's bits a glyph pixel ask.
 pub const TABLES_LENGTH: u8 = 6;
 
 // Start: a reserved bit is set.
@@ -39,17 +39,20 @@ pub const OFF_SCREEN: u8 = 10;
 // Start: two enabled layers have one depth.
 pub const SAME_DEPTH: u8 = 11;
 
-// Fill, paint: no start has given the output a size.
+// Fill, paint, line: no start has given the output a size.
 pub const NO_SIZE: u8 = 12;
 
-// Fill, paint: the output is not 4 bytes for each pixel.
+// Fill, paint, line: the output is not 4 bytes for each pixel.
 pub const OUTPUT_LENGTH: u8 = 13;
 
-// Paint: the pictures have the wrong total length.
+// Paint, line: the pictures have the wrong total length.
 pub const PICTURES_LENGTH: u8 = 14;
 
 // Paint a band: the lower end is above the upper, or the upper above 8.
 pub const NO_BAND: u8 = 15;
+
+// Line: its number is at or past the height.
+pub const NO_LINE: u8 = NO_BAND;
 
 // Host entry: the register image is not 208 bytes.
 pub const IMAGE_LENGTH: u8 = 16;

@@ -23,9 +23,9 @@ use Rattle.display.specs.declared.Display.{Display}
 use Rattle.display.specs.declared.Told.{Told}
 use Rattle.display.specs.State.{bitsIn, fresh, withErrors, stepped, newOf, writeOf, selectOf, toggleOf, startOf}
 use Rattle.display.specs.Put.{putAnswer, putState, putOf}
-use Rattle.display.specs.Paint.{fillTold, paintTold, frameTold}
+use Rattle.display.specs.Paint.{fillTold, paintTold, frameTold, lineTold}
 use Rattle.display.specs.Reached.{Reached, by-new, by-write, by-select, by-toggle, by-start, by-put, by-fill}
-use Rattle.display.specs.Reached.{by-paint, by-frame, Sound}
+use Rattle.display.specs.Reached.{by-paint, by-frame, by-line, Sound}
 
 abbrev SoundTold : Told → Type 0
 SoundTold t = Sound (t .state)
@@ -139,6 +139,10 @@ module _ (d : Display) (s : Sound d) where
   unfolding frameTold
   frame-sound tables pictures out = paint-sound 0 8 tables pictures out
 
+  pub line-sound : (y : ℕ) (tables pictures out : List ℕ) → Sound (lineTold d y tables pictures out .state)
+  unfolding lineTold
+  line-sound y tables pictures out = errors-sound _
+
 pub reached-sound : {d : Display} → Reached d → Sound d
 reached-sound (by-new bits) = new-sound bits
 reached-sound (by-write {d} register value r) = write-sound d (reached-sound r) register value
@@ -149,3 +153,4 @@ reached-sound (by-put {d} tables r) = put-sound d (reached-sound r) tables
 reached-sound (by-fill {d} out r) = fill-sound d (reached-sound r) out
 reached-sound (by-paint {d} a b tables pictures out r) = paint-sound d (reached-sound r) a b tables pictures out
 reached-sound (by-frame {d} tables pictures out r) = frame-sound d (reached-sound r) tables pictures out
+reached-sound (by-line {d} y tables pictures out r) = line-sound d (reached-sound r) y tables pictures out

@@ -15,6 +15,7 @@ use Rattle.display.specs.State.{newOf, writeOf, selectOf, toggleOf, star
 use Rattle.display.specs.Put.{putOf, putTables}
 use Rattle.display.specs.Runs.{putRunOf, putRunTables, writeRunOf}
 use Rattle.display.specs.Paint.{fillTold, fillBytes, paintTold, paintBytes, frameTold, frameBytes}
+use Rattle.display.specs.Paint.{lineTold, lineBytes}
 use Rattle.display.proofs.Display.new.Reads as new
 use Rattle.display.proofs.Display.write.Reads as write
 use Rattle.display.proofs.Display.select.Reads as select
@@ -26,6 +27,7 @@ use Rattle.display.proofs.Display.write_run.Reads as write_run
 use Rattle.display.proofs.Display.fill.Reads as fill
 use Rattle.display.proofs.Display.paint.Reads as paint
 use Rattle.display.proofs.Display.frame.Reads as frame
+use Rattle.display.proofs.Display.line.Reads as line
 use Rattle.display.proofs.Display.error_word.Reads as error_word
 use Rattle.display.proofs.Display.frame_number.Reads as frame_number
 use Rattle.display.proofs.Display.output_width.Reads as output_width
@@ -147,6 +149,19 @@ frame-tie = record { is = λ κs i a e. pair-is }
 
 pub frame-unique : OneOutcome frameCall
 frame-unique = tied-unique frame-tie
+
+-- the state, the line's number, tables, pictures, output
+abbrev pub lineCall : Call (Display × ℕ × List ℕ × List ℕ × List ℕ) (Told × List ℕ)
+lineCall =
+    callOf line.Post (λ κs i. (i .0, i .1 .0, now (i .1 .1 .0), now (i .1 .1 .1 .0), now (i .1 .1 .1 .1 .0)))
+    (λ κs a e. (a, now (e .1 .1 .1 .1 .0)))
+
+pub line-tie : Tied lineCall
+    (λ x. (lineTold (x .0) (x .1) (x .2) (x .3) (x .4), lineBytes (x .0) (x .1) (x .2) (x .3) (x .4)))
+line-tie = record { is = λ κs i a e. pair-is }
+
+pub line-unique : OneOutcome lineCall
+line-unique = tied-unique line-tie
 
 -- ---- the reads answer a number of the state
 

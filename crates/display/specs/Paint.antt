@@ -1,10 +1,11 @@
--- What fill, paint and frame answer and leave, in the state and in the output: painting of the active
--- words at the frame number, 01 "Painting". Assumes nothing.
+-- What fill, paint, frame and line answer and leave, in the state and in the output: painting of the active
+-- words at the frame number, 01 "Painting", 02 K3. Assumes nothing.
 use Prim.Native.Nat.{ℕ}
 use mathlib.Core.List.{List}
 use lib.ListN.{length}
 use Rattle.frames.specs.Scene.{Scene, sceneOf}
 use Rattle.frames.specs.Frame.{refusalOf, fillRefusal, fillAfter, paintAfter, errorsAfter, frameAfter}
+use Rattle.frames.specs.Line.{lineRefusalOf, lineAfter, lineErrorsAfter}
 use Rattle.display.specs.declared.Display.{Display}
 use Rattle.display.specs.declared.Told.{Told}
 use Rattle.display.specs.State.{withErrors, told}
@@ -44,3 +45,15 @@ frameTold d tables pictures out = paintTold d 0 8 tables pictures out
 -- the output that it leaves, whatever it held
 unfoldable pub frameBytes : Display → List ℕ → List ℕ → List ℕ → List ℕ
 frameBytes d tables pictures out = frameAfter (sceneWith d tables pictures) out
+
+-- ---- 02 K3: "blends line by line into one lent output line"; "its bytes and error bits are those of the whole frame"
+
+-- the answer, and the error word that painting leaves; nothing else of the state changes
+unfoldable pub lineTold : Display → ℕ → List ℕ → List ℕ → List ℕ → Told
+lineTold d y tables pictures out =
+    told (withErrors d (lineErrorsAfter (sceneWith d tables pictures) y out (d .errors)))
+    (lineRefusalOf (sceneWith d tables pictures) y out)
+
+-- the line that it leaves, whatever it held
+unfoldable pub lineBytes : Display → ℕ → List ℕ → List ℕ → List ℕ → List ℕ
+lineBytes d y tables pictures out = lineAfter (sceneWith d tables pictures) y out

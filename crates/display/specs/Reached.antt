@@ -10,7 +10,7 @@ use Rattle.tables.specs.Selection.{endOf}
 use Rattle.display.specs.declared.Display.{Display}
 use Rattle.display.specs.State.{bitsIn, newOf, writeOf, selectOf, toggleOf, startOf}
 use Rattle.display.specs.Put.{putOf}
-use Rattle.display.specs.Paint.{fillTold, paintTold, frameTold}
+use Rattle.display.specs.Paint.{fillTold, paintTold, frameTold, lineTold}
 
 -- the fresh states, and what each call makes of one that has come to be. Numbers are not held to 32 bits
 -- nor bytes to 8, as the calls' types hold them, so that there are rather more states here than fewer. A run
@@ -26,6 +26,8 @@ pub data Reached : Display → Type 0 where
   by-paint : {d : Display} (a b : ℕ) (tables pictures out : List ℕ) → Reached d
       → Reached (paintTold d a b tables pictures out .state)
   by-frame : {d : Display} (tables pictures out : List ℕ) → Reached d → Reached (frameTold d tables pictures out .state)
+  by-line : {d : Display} (y : ℕ) (tables pictures out : List ℕ) → Reached d
+      → Reached (lineTold d y tables pictures out .state)
 
 -- there are 52 words of each; the active ones are all 0 or accepted; the selection is in range,
 -- and the place at most at its table's end

@@ -8,6 +8,7 @@ ghost use Rattle.display.specs.State.{newOf, writeOf, selectOf, toggleOf
 ghost use Rattle.display.specs.Put.{putOf, putTables};
 ghost use Rattle.display.specs.Runs.{toldBy, putRunOf, putRunTables, writeRunOf};
 ghost use Rattle.display.specs.Paint.{fillTold, fillBytes, paintTold, paintBytes, frameTold, frameBytes};
+ghost use Rattle.display.specs.Paint.{lineTold, lineBytes};
 ghost use Rattle.display.specs.Doors.{stateLen, takenOf, stateBytes, doorAnswer, doorState};
 ghost use Rattle.display.specs.Doors.{doorBuffer, doorRead};
 use crate::Display;
@@ -258,6 +259,28 @@ pub extern "C" fn spoonwing_display_frame(
         return STATE_LENGTH as u32;
     }
     given(taken(state).frame(tables, pictures, out), state)
+}
+
+#[no_mangle]
+pub extern "C" fn spoonwing_display_line(
+    state: &mut [u8],
+    y: u32,
+    tables: &[u8],
+    pictures: &[u8],
+    out: &mut [u8],
+) -> u32
+    ensures answer { λ r. ⌜ r ≡ doorAnswer (now (state .entry))
+        (λ d. lineTold d y (now (tables .entry)) (now (pictures .entry)) (now (out .entry))) ⌝ }
+    ensures state { λ _. ⌜ now (state .exit) ≡ doorState (now (state .entry))
+        (λ d. lineTold d y (now (tables .entry)) (now (pictures .entry)) (now (out .entry))) ⌝ }
+    ensures output { λ _. ⌜ now (out .exit)
+        ≡ doorBuffer (now (state .entry)) (λ d. lineBytes d y (now (tables .entry)) (now (pictures .entry))
+        (now (out .entry))) (now (out .entry)) ⌝ }
+{
+    if state.len() != STATE_LEN {
+        return STATE_LENGTH as u32;
+    }
+    given(taken(state).line(y, tables, pictures, out), state)
 }
 
 // ---- reads: 0 of a state of another length

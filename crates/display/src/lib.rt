@@ -8,6 +8,7 @@ ghost use Rattle.display.specs.State.{newOf, writeOf, selectOf, toggleOf
 ghost use Rattle.display.specs.Put.{putOf, putTables};
 ghost use Rattle.display.specs.Runs.{ran, toldBy, putRunOf, putRunTables, writeRunOf};
 ghost use Rattle.display.specs.Paint.{fillTold, fillBytes, paintTold, paintBytes, frameTold, frameBytes};
+ghost use Rattle.display.specs.Paint.{lineTold, lineBytes};
 use answers::DONE;
 use answers::GLYPH_BITS;
 use answers::NO_REGISTER;
@@ -294,6 +295,31 @@ impl Display {
             &self.active,
             self.frame,
             self.errors,
+            tables,
+            pictures,
+            out,
+        );
+        self.errors = painted.errors;
+        Told {
+            state: self,
+            answer: painted.answer,
+        }
+    }
+
+    // Paints line y of a whole frame into `out`, which has that line alone, whatever it held; the error bits are those
+    // of the whole frame. Refused with 12, 15, 13, 6, 14 in this order; a refusal changes nothing.
+    pub fn line(mut self, y: u32, tables: &[u8], pictures: &[u8], out: &mut [u8]) -> Told
+        ensures state { λ r. ⌜ r ≡ lineTold self y (now (tables .entry)) (now (pictures .entry)) (now (out .entry)) ⌝ }
+        ensures output { λ _. ⌜ now (out .exit)
+            ≡ lineBytes self y (now (tables .entry)) (now (pictures .entry)) (now (out .entry)) ⌝ }
+    {
+        let profile = self.profile;
+        let painted = paint::line(
+            profile,
+            &self.active,
+            self.frame,
+            self.errors,
+            y,
             tables,
             pictures,
             out,

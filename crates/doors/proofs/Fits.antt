@@ -36,17 +36,18 @@ use Rattle.tables.proofs.Geometry.{kind-room, bank-le}
 use Rattle.frames.specs.Scene.{Scene}
 use Rattle.frames.specs.Band.{layerStep, depthStep, bandBy, missing, markAt, errorsOf}
 use Rattle.frames.specs.Frame.{refusalOf, errorsAfter}
+use Rattle.frames.specs.Line.{lineRefusalOf, lineErrorsAfter}
 use Rattle.display.specs.declared.Display.{Display}
 use Rattle.display.specs.declared.Told.{Told}
 use Rattle.display.specs.State.{bitsIn, fresh, newOf, withPending, withActive, withFrame, withErrors, withSelection}
 use Rattle.display.specs.State.{stepped, writeOf, selectOf, toggleOf, startOf}
 use Rattle.display.specs.Put.{putAnswer, putState, putOf}
 use Rattle.display.specs.Runs.{lent, putOne, puts, putRunOf, writeOne, writes, writeRunOf}
-use Rattle.display.specs.Paint.{sceneWith, fillTold, paintTold, frameTold}
+use Rattle.display.specs.Paint.{sceneWith, fillTold, paintTold, frameTold, lineTold}
 use Rattle.display.specs.Doors.{takenOf}
 use Rattle.display.proofs.Sound.{below-end}
 use Rattle.doors.specs.Rows.{AreWords, Fits, Ask, ask-new, ask-write, ask-select, ask-toggle, ask-start, ask-put}
-use Rattle.doors.specs.Rows.{ask-put-run, ask-write-run, ask-fill, ask-paint, ask-frame, Typed, tellsOf}
+use Rattle.doors.specs.Rows.{ask-put-run, ask-write-run, ask-fill, ask-paint, ask-frame, ask-line, Typed, tellsOf}
 
 -- ---- out of bytes
 
@@ -249,6 +250,14 @@ module _ (d : Display) (f : Fits d) where
   unfolding frameTold
   frame-fits tables pictures out = paint-fits 0 8 tables pictures out
 
+  line-fits : (y : ℕ) (tables pictures out : List ℕ) → Fits (lineTold d y tables pictures out .state)
+  unfolding lineTold lineErrorsAfter
+  line-fits y tables pictures out =
+      let s = sceneWith d tables pictures in
+      errors-kept d f _
+      (pick-keeps (λ (x : ℕ). x < 2 ^ 32) (eqb (lineRefusalOf s y out) done) _ _
+      (λ t. errors-fit s 0 8 (d .errors) (f .errors)) (λ t. f .errors))
+
 -- ---- the runs: each call of one keeps it
 
 -- the values of a run's writes are of four bytes
@@ -285,3 +294,4 @@ module _ (d : Display) (f : Fits d) where
   call-fits (ask-fill out) t = fill-fits d f out
   call-fits (ask-paint low high tables pictures out) t = paint-fits d f low high tables pictures out
   call-fits (ask-frame tables pictures out) t = frame-fits d f tables pictures out
+  call-fits (ask-line y tables pictures out) t = line-fits d f y tables pictures out

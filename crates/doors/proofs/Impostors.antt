@@ -17,11 +17,11 @@ use Rattle.display.specs.State.{newOf, startOf, writeOf, selectOf, toggleOf}
 use Rattle.display.specs.Put.{putOf}
 use Rattle.display.specs.Runs.{toldBy, putRunOf, writeRunOf}
 use Rattle.display.proofs.PutLaws.{put-done}
-use Rattle.display.specs.Paint.{fillTold, fillBytes, paintTold, paintBytes, frameTold, frameBytes}
+use Rattle.display.specs.Paint.{fillTold, fillBytes, paintTold, paintBytes, frameTold, frameBytes, lineTold, lineBytes}
 use Rattle.display.specs.Doors.{takenOf, stateBytes}
 use Rattle.laws.specs.Small.{first, grey, night, written, started, selecting, oneWrite, blank, filled, white, clear, dim}
 use Rattle.laws.specs.Small.{bright}
-use Rattle.laws.specs.Small.{painted, framed}
+use Rattle.laws.specs.Small.{painted, framed, lined}
 use Rattle.laws.specs.Impostors.{TurnsDown, Rule, lowest, by256, numbered, groundLast, paintBy, frameBy}
 use Rattle.laws.proofs.Small as small
 use Rattle.laws.proofs.Runs.{put-run-one, put-run-all, write-run-all}
@@ -31,6 +31,7 @@ use Rattle.doors.specs.Rows.{Fits, Holds, ask-write, ask-select, ask-tog
 use Rattle.doors.proofs.Fits.{fresh-fits, call-fits}
 use Rattle.doors.proofs.Round.{taken-back, answer-held, state-held, buffer-held, read-held}
 use Rattle.doors.proofs.Unique.{newDoor, writeDoor, selectDoor, toggleDoor, startDoor, putDoor, fillDoor}
+use Rattle.doors.proofs.Unique.{lineDoor, line-door-tie}
 use Rattle.doors.proofs.Unique.{paintDoor, frameDoor, new-door-tie, write-door-tie, select-door-tie}
 use Rattle.doors.proofs.Unique.{toggle-door-tie, start-door-tie, put-door-tie, fill-door-tie, paint-door-tie}
 use Rattle.doors.proofs.Unique.{frame-door-tie, putRunDoor, writeRunDoor, put-run-door-tie, write-run-door-tie}
@@ -132,6 +133,12 @@ module _ (a : ℕ) (s : List ℕ) (down : TurnsDown a) where
       ∙ answer-held _ (started grey) (started-held grey (omega arith)) (λ d. frameTold d blank white filled)
       ∙ small.frame-accepted white refl)
 
+  pub line-door-down : (o : List ℕ) → Meets lineDoor (stateBytes (started grey), 0, blank, white, filled) (a, s, o) → ⊥
+  line-door-down o m =
+      down (triple-is .1 (tied-meets line-door-tie m) .0
+      ∙ answer-held _ (started grey) (started-held grey (omega arith)) (λ d. lineTold d 0 blank white filled)
+      ∙ small.line-accepted white refl)
+
 -- ---- "one that touches nothing"
 
 pub new-door-untouched : Meets newDoor (stateBytes selecting, 1) (done, stateBytes selecting) → ⊥
@@ -231,6 +238,12 @@ frames pictures out a s m =
     triple-is .1 (tied-meets frame-door-tie m) .1 .1
     ∙ buffer-held _ (started grey) (started-held grey (omega arith)) (λ d. frameBytes d blank pictures filled) filled
 
+lines : (pictures out : List ℕ) (a : ℕ) (s : List ℕ)
+    → Meets lineDoor (stateBytes (started grey), 0, blank, pictures, filled) (a, s, out) → out ≡ lined pictures
+lines pictures out a s m =
+    triple-is .1 (tied-meets line-door-tie m) .1 .1
+    ∙ buffer-held _ (started grey) (started-held grey (omega arith)) (λ d. lineBytes d 0 blank pictures filled) filled
+
 module _ (a : ℕ) (s : List ℕ) where
   pub fill-door-untouched : Meets fillDoor (stateBytes (started night), filled) (a, s, filled) → ⊥
   fill-door-untouched m =
@@ -247,6 +260,10 @@ module _ (a : ℕ) (s : List ℕ) where
   frame-door-untouched m =
       differ 0 (λ (z : 100 ≡ 255). omega arith) (frames white filled a s m ∙ small.white-promised .frame)
 
+  pub line-door-untouched : Meets lineDoor (stateBytes (started grey), 0, blank, white, filled) (a, s, filled) → ⊥
+  line-door-untouched m =
+      differ 0 (λ (z : 100 ≡ 255). omega arith) (lines white filled a s m ∙ small.white-promised .scan)
+
   -- ---- "one that gives one fixed frame": it does not meet the contract on both of two inputs
 
   module _ (b : ℕ) (u fixed : List ℕ) where
@@ -262,30 +279,36 @@ module _ (a : ℕ) (s : List ℕ) where
         one-frame (small.white-promised .frame) (small.clear-promised .frame) (frames white fixed a s m)
         (frames clear fixed b u n)
 
+    pub line-door-fixed : Meets lineDoor (stateBytes (started grey), 0, blank, white, filled) (a, s, fixed)
+        → Meets lineDoor (stateBytes (started grey), 0, blank, clear, filled) (b, u, fixed) → ⊥
+    line-door-fixed m n =
+        one-frame (small.white-promised .scan) (small.clear-promised .scan) (lines white fixed a s m)
+        (lines clear fixed b u n)
+
   -- ---- other rules of painting: a frame x that is not the promised one
 
-  breaks : (rule : Rule) {x : List ℕ} → frameBy rule white ≡ x → (x ≡ 255 ∷ 255 ∷ 255 ∷ 255 ∷ [] → ⊥)
-      → (Meets paintDoor (stateBytes (started grey), 0, 8, blank, white, filled) (a, s, paintBy rule white) → ⊥)
-      × (Meets frameDoor (stateBytes (started grey), blank, white, filled) (a, s, frameBy rule white) → ⊥)
-  unfolding small.frameOpen
-  breaks rule is wrong = (
-    λ m. wrong (sym is ∙ paints white (paintBy rule white) a s m ∙ small.white-promised .paint),
-    λ m. wrong (sym is ∙ frames white (frameBy rule white) a s m ∙ small.white-promised .frame),
-  )
+  -- what a rule gives meets none of the doors' contracts, with the white picture
+  pub record DoorsBreak (rule : Rule) : Type 0 where
+    pub paint : Meets paintDoor (stateBytes (started grey), 0, 8, blank, white, filled) (a, s, paintBy rule white) → ⊥
+    pub frame : Meets frameDoor (stateBytes (started grey), blank, white, filled) (a, s, frameBy rule white) → ⊥
+    pub line : Meets lineDoor (stateBytes (started grey), 0, blank, white, filled) (a, s, frameBy rule white) → ⊥
 
-  pub lowest-door-breaks : (Meets paintDoor (stateBytes (started grey), 0, 8, blank, white, filled)
-      (a, s, paintBy lowest white) → ⊥)
-      × (Meets frameDoor (stateBytes (started grey), blank, white, filled) (a, s, frameBy lowest white) → ⊥)
+  breaks : (rule : Rule) {x : List ℕ} → frameBy rule white ≡ x → (x ≡ 255 ∷ 255 ∷ 255 ∷ 255 ∷ [] → ⊥) → DoorsBreak rule
+  unfolding small.frameOpen
+  breaks rule is wrong =
+      record {
+        paint = λ m. wrong (sym is ∙ paints white (paintBy rule white) a s m ∙ small.white-promised .paint);
+        frame = λ m. wrong (sym is ∙ frames white (frameBy rule white) a s m ∙ small.white-promised .frame);
+        line = λ m. wrong (sym is ∙ lines white (frameBy rule white) a s m ∙ small.white-promised .scan);
+      }
+
+  pub lowest-door-breaks : DoorsBreak lowest
   lowest-door-breaks = breaks lowest lowest-frame (differ 0 (λ (z : 10 ≡ 255). omega arith))
 
-  pub by256-door-breaks : (Meets paintDoor (stateBytes (started grey), 0, 8, blank, white, filled)
-      (a, s, paintBy by256 white) → ⊥)
-      × (Meets frameDoor (stateBytes (started grey), blank, white, filled) (a, s, frameBy by256 white) → ⊥)
+  pub by256-door-breaks : DoorsBreak by256
   by256-door-breaks = breaks by256 by256-frame (differ 0 (λ (z : 254 ≡ 255). omega arith))
 
-  pub numbered-door-breaks : (Meets paintDoor (stateBytes (started grey), 0, 8, blank, white, filled)
-      (a, s, paintBy numbered white) → ⊥)
-      × (Meets frameDoor (stateBytes (started grey), blank, white, filled) (a, s, frameBy numbered white) → ⊥)
+  pub numbered-door-breaks : DoorsBreak numbered
   numbered-door-breaks = breaks numbered numbered-frame (differ 0 (λ (z : 10 ≡ 255). omega arith))
 
 -- ---- the background last: it makes one frame of a dim and a bright faint colour, and does not meet the
@@ -309,3 +332,11 @@ module _ (a b : ℕ) (s u : List ℕ) (last : ℕ → ℕ → ℕ → ℕ) where
       dim-bright last (small.dim-promised .frame) (small.bright-promised .frame)
       (same-frame last ∙ frames dim (frameBy (groundLast last) dim) a s m)
       (frames bright (frameBy (groundLast last) bright) b u n)
+
+  pub line-door-ground-last : Meets lineDoor (stateBytes (started grey), 0, blank, dim, filled)
+      (a, s, frameBy (groundLast last) dim)
+      → Meets lineDoor (stateBytes (started grey), 0, blank, bright, filled) (b, u, frameBy (groundLast last) bright) → ⊥
+  line-door-ground-last m n =
+      dim-bright last (small.dim-promised .scan) (small.bright-promised .scan)
+      (same-frame last ∙ lines dim (frameBy (groundLast last) dim) a s m)
+      (lines bright (frameBy (groundLast last) bright) b u n)

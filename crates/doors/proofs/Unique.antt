@@ -11,7 +11,7 @@ use Rattle.words.specs.Fields.{widthOf, heightOf}
 use Rattle.display.specs.State.{newOf, writeOf, selectOf, toggleOf, startOf}
 use Rattle.display.specs.Put.{putOf, putTables}
 use Rattle.display.specs.Runs.{toldBy, putRunOf, putRunTables, writeRunOf}
-use Rattle.display.specs.Paint.{fillTold, fillBytes, paintTold, paintBytes, frameTold, frameBytes}
+use Rattle.display.specs.Paint.{fillTold, fillBytes, paintTold, paintBytes, frameTold, frameBytes, lineTold, lineBytes}
 use Rattle.display.specs.Doors.{doorAnswer, doorState, doorBuffer, doorRead}
 use Rattle.display.proofs.doors.spoonwing_display_new.Reads as new
 use Rattle.display.proofs.doors.spoonwing_display_write.Reads as write
@@ -24,6 +24,7 @@ use Rattle.display.proofs.doors.spoonwing_display_write_run.Reads as write_run
 use Rattle.display.proofs.doors.spoonwing_display_fill.Reads as fill
 use Rattle.display.proofs.doors.spoonwing_display_paint.Reads as paint
 use Rattle.display.proofs.doors.spoonwing_display_frame.Reads as frame
+use Rattle.display.proofs.doors.spoonwing_display_line.Reads as line
 use Rattle.display.proofs.doors.spoonwing_display_error_word.Reads as error_word
 use Rattle.display.proofs.doors.spoonwing_display_frame_number.Reads as frame_number
 use Rattle.display.proofs.doors.spoonwing_display_output_width.Reads as output_width
@@ -204,6 +205,23 @@ frame-door-tie = record { is = λ κs i a e. triple-is }
 
 pub frame-door-unique : OneOutcome frameDoor
 frame-door-unique = tied-unique frame-door-tie
+
+abbrev pub lineDoor : Call (List ℕ × ℕ × List ℕ × List ℕ × List ℕ) (ℕ × List ℕ × List ℕ)
+lineDoor =
+    callOf line.Post
+    (λ κs i. (now (i .0), i .1 .0, now (i .1 .1 .0), now (i .1 .1 .1 .0), now (i .1 .1 .1 .1 .0)))
+    (λ κs a e. (a, now (e .0), now (e .1 .1 .1 .1 .0)))
+
+pub line-door-tie : Tied lineDoor
+    (λ x. (
+      doorAnswer (x .0) (λ d. lineTold d (x .1) (x .2) (x .3) (x .4)),
+      doorState (x .0) (λ d. lineTold d (x .1) (x .2) (x .3) (x .4)),
+      doorBuffer (x .0) (λ d. lineBytes d (x .1) (x .2) (x .3) (x .4)) (x .4),
+    ))
+line-door-tie = record { is = λ κs i a e. triple-is }
+
+pub line-door-unique : OneOutcome lineDoor
+line-door-unique = tied-unique line-door-tie
 
 -- ---- reads
 

@@ -8,7 +8,7 @@ use Rattle.display.specs.declared.Told.{Told}
 use Rattle.display.specs.State.{newOf, writeOf, selectOf, toggleOf, startOf}
 use Rattle.display.specs.Put.{putOf, putTables}
 use Rattle.display.specs.Runs.{toldBy, putRunOf, putRunTables, writeRunOf}
-use Rattle.display.specs.Paint.{fillTold, fillBytes, paintTold, paintBytes, frameTold, frameBytes}
+use Rattle.display.specs.Paint.{fillTold, fillBytes, paintTold, paintBytes, frameTold, frameBytes, lineTold, lineBytes}
 use Rattle.display.specs.Doors.{stateBytes, doorAnswer, doorState, doorBuffer, doorRead}
 
 -- ---- a state and its bytes
@@ -48,6 +48,7 @@ pub data Ask : Type 0 where
   ask-fill : (out : List ℕ) → Ask
   ask-paint : (low high : ℕ) (tables pictures out : List ℕ) → Ask
   ask-frame : (tables pictures out : List ℕ) → Ask
+  ask-line : (y : ℕ) (tables pictures out : List ℕ) → Ask
 
 -- numbers that become a part of the state have 32 bits, and bytes that do 8, as their types have it
 abbrev pub Typed : Ask → Type 0
@@ -62,6 +63,7 @@ Typed (ask-put-run tables run) = Unit {0}
 Typed (ask-fill out) = Unit {0}
 Typed (ask-paint low high tables pictures out) = Unit {0}
 Typed (ask-frame tables pictures out) = Unit {0}
+Typed (ask-line y tables pictures out) = Unit {0}
 
 -- what the display's call answers and leaves of the state
 abbrev pub tellsOf : Ask → Display → Told
@@ -76,6 +78,7 @@ tellsOf (ask-write-run run) d = toldBy (writeRunOf d run)
 tellsOf (ask-fill out) d = fillTold d out
 tellsOf (ask-paint low high tables pictures out) d = paintTold d low high tables pictures out
 tellsOf (ask-frame tables pictures out) d = frameTold d tables pictures out
+tellsOf (ask-line y tables pictures out) d = lineTold d y tables pictures out
 
 -- the buffer that it writes, as it is lent; none is an empty one
 abbrev pub lentTo : Ask → List ℕ
@@ -90,6 +93,7 @@ lentTo (ask-write-run run) = []
 lentTo (ask-fill out) = out
 lentTo (ask-paint low high tables pictures out) = out
 lentTo (ask-frame tables pictures out) = out
+lentTo (ask-line y tables pictures out) = out
 
 -- and as the call leaves it
 abbrev pub leftBy : Ask → Display → List ℕ
@@ -104,6 +108,7 @@ leftBy (ask-write-run run) d = []
 leftBy (ask-fill out) d = fillBytes d out
 leftBy (ask-paint low high tables pictures out) d = paintBytes d low high tables pictures out
 leftBy (ask-frame tables pictures out) d = frameBytes d tables pictures out
+leftBy (ask-line y tables pictures out) d = lineBytes d y tables pictures out
 
 -- how many items it tells that it has done; 0 where it tells none
 abbrev pub countBy : Ask → Display → ℕ
@@ -118,6 +123,7 @@ countBy (ask-put tables byte) d = 0
 countBy (ask-fill out) d = 0
 countBy (ask-paint low high tables pictures out) d = 0
 countBy (ask-frame tables pictures out) d = 0
+countBy (ask-line y tables pictures out) d = 0
 
 -- ---- a row of calls
 

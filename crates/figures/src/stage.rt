@@ -8,6 +8,7 @@
 //     P  put byte a, and b times more (up to 1,023)       F  fill
 //     U  put a run, X write a run: the b bytes of the pictures from a on, or what there is of them
 //     B  paint the band a..b          R  paint a whole frame
+//     Y  paint line a into the output from byte b on, so many bytes as are lent
 use crate::buffers;
 use crate::record::Record;
 use display::Display;
@@ -110,6 +111,20 @@ fn frame(state: Display, tables: &[u8], pictures: &[u8], out: &mut [u8], lent: L
     state.frame(&tables[..t], &pictures[..p], &mut out[..n])
 }
 
+fn line(
+    state: Display,
+    y: u32,
+    tables: &[u8],
+    pictures: &[u8],
+    out: &mut [u8],
+    lent: Lent,
+) -> Told {
+    let t = io::count(lent.tables as isize, tables);
+    let p = io::count(lent.pictures as isize, pictures);
+    let n = io::count(lent.out as isize, out);
+    state.line(y, &tables[..t], &pictures[..p], &mut out[..n])
+}
+
 // What is lent after a record.
 fn lend(mut lent: Lent, r: Record) -> Lent {
     let buffer = r.a;
@@ -156,6 +171,10 @@ fn call(
         b'F' => fill(state, out, lent),
         b'B' => paint(state, r.a, r.b, tables, pictures, out, lent),
         b'R' => frame(state, tables, pictures, out, lent),
+        b'Y' => {
+            let at = io::count(r.b as isize, out);
+            line(state, r.a, tables, pictures, &mut out[at..], lent)
+        }
         _ => Told {
             state: state,
             answer: 0,

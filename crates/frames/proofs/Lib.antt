@@ -2,3 +2,4 @@
 pub mod PixelLaws
 pub mod BandLaws
 pub mod CallerLaws
+pub mod LineLaws

@@ -40,6 +40,10 @@ tablesRefusal bits tables = pick (eqb tables (tablesLen bits)) done tablesLength
 abbrev pub picturesRefusal : List ℕ → ℕ → ℕ
 picturesRefusal w pictures = pick (eqb pictures (picturesLen w)) done picturesLength
 
+-- "6, 14", of what is lent to read
+abbrev pub lentRefusal : ℕ → List ℕ → ℕ → ℕ → ℕ
+lentRefusal bits w tables pictures = orElse (tablesRefusal bits tables) (picturesRefusal w pictures)
+
 -- fill: 12, 13
 unfoldable pub fillRefusal : List ℕ → ℕ → ℕ
 fillRefusal w out = orElse (sizeRefusal w) (outputRefusal w out)
@@ -48,8 +52,7 @@ fillRefusal w out = orElse (sizeRefusal w) (outputRefusal w out)
 unfoldable pub paintRefusal : ℕ → List ℕ → ℕ → ℕ → ℕ → ℕ → ℕ → ℕ
 paintRefusal bits w a b out tables pictures =
     orElse (bandRefusal a b)
-    (orElse (sizeRefusal w)
-    (orElse (outputRefusal w out) (orElse (tablesRefusal bits tables) (picturesRefusal w pictures))))
+    (orElse (sizeRefusal w) (orElse (outputRefusal w out) (lentRefusal bits w tables pictures)))
 
 -- of a scene and an output
 abbrev pub refusalOf : Scene → ℕ → ℕ → List ℕ → ℕ

@@ -46,7 +46,7 @@ who i j n = ⊎-elim
     (same-or n i)
 
 -- bits set where a test says so, in either order
-mark-swap : (s t : Bool) (e a b : ℕ)
+pub mark-swap : (s t : Bool) (e a b : ℕ)
     → pick t (bitOr (pick s (bitOr e a) e) b) (pick s (bitOr e a) e)
     ≡ pick s (bitOr (pick t (bitOr e b) e) a) (pick t (bitOr e b) e)
 mark-swap true true e a b = or-swap e a b

@@ -27,14 +27,14 @@ use Rattle.display.specs.Runs.{ran, toldBy, writeRunOf}
 use Rattle.display.proofs.PutLaws.{put-done}
 use Rattle.display.proofs.Unique.{newCall, writeCall, selectCall, toggleCall, startCall, putCall, fillCall, paintCall}
 use Rattle.display.proofs.Unique.{frameCall, new-tie, write-tie, select-tie, toggle-tie, start-tie, put-tie, fill-tie}
-use Rattle.display.proofs.Unique.{paint-tie, frame-tie, putRunCall, writeRunCall, put-run-tie, write-run-tie}
+use Rattle.display.proofs.Unique.{paint-tie, frame-tie, lineCall, line-tie, putRunCall, writeRunCall, put-run-tie, write-run-tie}
 use Rattle.host.proofs.Unique.{hostCall, host-tie}
 use Rattle.line.specs.Sizes.{mostPrinted}
 use Rattle.line.specs.Line.{zeros}
 use Rattle.lines.specs.Sizes.{outLen}
 use Rattle.laws.specs.Small.{first, grey, night, written, started, sizeless, selecting, blank, filled, white, clear, dim}
 use Rattle.laws.specs.Small.{bright, image, line, page, printed, replyWith, Paints, Frames, Hosts, Prints}
-use Rattle.laws.specs.Small.{oneWrite, Finishes, Feeds}
+use Rattle.laws.specs.Small.{oneWrite, Scans, Finishes, Feeds}
 use Rattle.laws.specs.Impostors.{TurnsDown, PrintsDown, untouched, andNot, stoppedStart, Rule, paintedBy}
 use Rattle.laws.specs.Impostors.{framedBy, printedBy, lowest, by256, numbered, groundLast, paintBy, frameBy}
 use Rattle.laws.specs.Impostors.{hostBy, lineBy, Breaks}
@@ -96,6 +96,10 @@ module _ (t : Told) (down : TurnsDown (t .answer)) where
   pub frame-down : (out : List ℕ) → Meets frameCall (started grey, blank, white, filled) (t, out) → ⊥
   frame-down out m = refused (small.frame-accepted white refl) down (pair-is .1 (tied-meets frame-tie m) .0)
 
+  -- a frame's line, not a sheet's
+  pub scan-down : (out : List ℕ) → Meets lineCall (started grey, 0, blank, white, filled) (t, out) → ⊥
+  scan-down out m = refused (small.line-accepted white refl) down (pair-is .1 (tied-meets line-tie m) .0)
+
 pub host-down : (answer : ℕ) (out : List ℕ) → TurnsDown answer
     → Meets hostCall (image, 1, blank, white, filled) (answer, out) → ⊥
 host-down answer out down m = down (pair-is .1 (tied-meets host-tie m) .0 ∙ small.host-accepted white refl)
@@ -143,6 +147,10 @@ module _ (fixed : List ℕ) where
   pub frame-fixed : Frames white fixed → Frames clear fixed → ⊥
   frame-fixed m n =
       one-frame (small.white-promised .frame) (small.clear-promised .frame) (small.frames-is m) (small.frames-is n)
+
+  pub scan-fixed : Scans white fixed → Scans clear fixed → ⊥
+  scan-fixed m n =
+      one-frame (small.white-promised .scan) (small.clear-promised .scan) (small.scans-is m) (small.scans-is n)
 
   pub host-fixed : Hosts white fixed → Hosts clear fixed → ⊥
   host-fixed m n =
@@ -226,6 +234,9 @@ paint-untouched m = differ 0 (λ (z : 100 ≡ 255). omega arith) (small.paints-i
 pub frame-untouched : Frames white filled → ⊥
 frame-untouched m = differ 0 (λ (z : 100 ≡ 255). omega arith) (small.frames-is m ∙ small.white-promised .frame)
 
+pub scan-untouched : Scans white filled → ⊥
+scan-untouched m = differ 0 (λ (z : 100 ≡ 255). omega arith) (small.scans-is m ∙ small.white-promised .scan)
+
 pub host-untouched : Hosts white filled → ⊥
 host-untouched m = differ 0 (λ (z : 100 ≡ 255). omega arith) (small.hosts-is m ∙ small.white-promised .host)
 
@@ -286,6 +297,7 @@ breaks rule is wrong text wrong-text =
     record {
       paint = λ m. wrong (sym is ∙ small.paints-is m ∙ small.white-promised .paint);
       frame = λ m. wrong (sym is ∙ small.frames-is m ∙ small.white-promised .frame);
+      scan = λ m. wrong (sym is ∙ small.scans-is m ∙ small.white-promised .scan);
       host = λ m. wrong (sym is ∙ ap (framedBy rule) (sym (small.host-scene white refl)) ∙ small.hosts-is m
           ∙ small.white-promised .host);
       line = λ m. wrong-line mostPrinted (small.prints-is white m);
@@ -372,6 +384,11 @@ module _ (last : ℕ → ℕ → ℕ → ℕ) where
   frame-ground-last m n =
       dim-bright (small.dim-promised .frame) (small.bright-promised .frame) (same-frame ∙ small.frames-is m)
       (small.frames-is n)
+
+  pub scan-ground-last : Scans dim (frameBy rule dim) → Scans bright (frameBy rule bright) → ⊥
+  scan-ground-last m n =
+      dim-bright (small.dim-promised .scan) (small.bright-promised .scan) (same-frame ∙ small.scans-is m)
+      (small.scans-is n)
 
   pub host-ground-last : Hosts dim (hostBy rule dim) → Hosts bright (hostBy rule bright) → ⊥
   host-ground-last m n =

@@ -8,6 +8,7 @@ pub mod Opaque
 pub mod Invisible
 pub mod Between
 pub mod Calls
+pub mod Lines
 pub mod Runs
 pub mod Worked
 pub mod Figures

@@ -22,6 +22,7 @@ use Rattle.frames.specs.Band.{bandOf, errorsOf}
 use Rattle.frames.specs.Frame.{bandRefusal, sizeRefusal, outputRefusal, tablesRefusal, picturesRefusal, fillRefusal}
 use Rattle.frames.specs.Frame.{paintRefusal, fillOf, frameOf}
 use Rattle.frames.specs.Frame as painting
+use Rattle.frames.specs.Line.{numberRefusal, lengthRefusal, lineRefusal, lineRefusalOf, frameLine, lineAfter, lineErrorsAfter}
 use Rattle.display.specs.declared.Display.{Display}
 use Rattle.display.specs.declared.Told.{Told}
 use Rattle.display.specs.State.{withPending, withActive, withErrors, freshSelection, withPlace, told, stepped, writeOf}
@@ -29,6 +30,7 @@ use Rattle.display.specs.State.{bitsIn, fresh, newOf, selectOf, toggleOf, start
 use Rattle.display.specs.Put.{putAnswer, putState, putOf, putTables}
 use Rattle.display.specs.Reached.{Sound}
 use Rattle.display.specs.Paint.{sceneWith, fillTold, fillBytes, paintTold, paintBytes, frameTold, frameBytes}
+use Rattle.display.specs.Paint.{lineTold, lineBytes}
 use Rattle.host.specs.Host.{wordsOf, profileFor, sceneIn, hostAnswer, hostOutput}
 use Rattle.host.proofs.HostLaws.{host-tables}
 use Rattle.laws.proofs.Refusals.{Says, says-itself, eqb-says, ltb-says, leb-says, both-says, either-says, Tells}
@@ -37,7 +39,7 @@ use Rattle.laws.proofs.Refusals.{or-later, given-when, passed-when, own
 use Rattle.laws.specs.Rows.{Row, StartRow, PutRow, FillRow, PaintRow, FrameRow, HostRow, ReservedBit, Case8}
 use Rattle.laws.specs.Rows.{Case9, Case10, Case11, Updates, NoBand, NoSize, WrongOutput, WrongTables, WrongBoth}
 use Rattle.laws.specs.Rows.{WrongPictures, Case6, Case14, BuffersFit, NotSelected, BankActive, BankFull}
-use Rattle.laws.specs.Rows.{OneOrTwo, WrongImage}
+use Rattle.laws.specs.Rows.{OneOrTwo, WrongImage, NoLine, WrongLine, LineRow}
 use Rattle.laws.proofs.CheckRows.{check-7, check-8, check-9, check-10, check-11, check-0, check-misses}
 
 -- ---- new, write, select and toggle
@@ -378,6 +380,78 @@ module _ (d : Display) (tables pictures out : List ℕ) where
   unfolding paintRefusal frameTold frameBytes paintTold painting.errorsAfter painting.frameAfter
   frame-0 =
       let f = lent-0 (bitsIn d) (d .active) out tables pictures _ (tells-6 (bitsIn d) tables) in
+      record { only = f .0; when = f .1; leaves = λ q. (rw (eq-eqb _ 0 q), rw (eq-eqb _ 0 q)) }
+
+-- 02 K3: "Refusals in order: 12, 15 for a line number at or past the height, 13 against 4·width, 6, 14."
+module _ (d : Display) (y : ℕ) (tables pictures out : List ℕ) where
+  tells-number : Tells (numberRefusal (d .active) y) 15 (NoLine (d .active) y)
+  tells-number =
+      tells-as (not-below y (heightOf (d .active)), λ h k. omega arith)
+      (refuses-but (ltb y (heightOf (d .active))) 15 (ltb-says y (heightOf (d .active))))
+
+  tells-length : Tells (lengthRefusal (d .active) (length out)) 13 (WrongLine (d .active) out)
+  tells-length = refuses-but _ 13 (eqb-says (length out) (4 * widthOf (d .active)))
+
+  -- 13, 6 and 14 give no other number
+  length-misses : (r : ℕ) → eqb 13 r ≡ false → eqb 6 r ≡ false → eqb 14 r ≡ false
+      → Misses (orElse (lengthRefusal (d .active) (length out))
+      (orElse (tablesRefusal (bitsIn d) (length tables)) (picturesRefusal (d .active) (length pictures)))) r
+  length-misses r a b c =
+      misses-or (lengthRefusal (d .active) (length out)) _ r (other r a tells-length)
+      (last-misses (bitsIn d) (d .active) out tables pictures _ (tells-6 (bitsIn d) tables) r b c)
+
+  line-row : (r : ℕ) {C : Type 0} → eqb r 0 ≡ false
+      → (lineRefusalOf (sceneWith d tables pictures) y out ≡ r) ↔ C → LineRow d y tables pictures out r C
+  unfolding lineTold lineBytes lineErrorsAfter lineAfter
+  line-row r nz f =
+      record {
+        only = f .0;
+        when = f .1;
+        leaves = λ q. (rw (ne-eqb _ 0 (over-zero nz q)), rw (ne-eqb _ 0 (over-zero nz q)));
+      }
+
+  pub line-12 : LineRow d y tables pictures out 12 (NoSize (d .active))
+  unfolding lineRefusal
+  line-12 = line-row 12 refl (own refl _ (tells-12 (d .active))
+      (misses-or (numberRefusal (d .active) y) _ 12 (other 12 refl tells-number) (length-misses 12 refl refl refl)))
+
+  pub line-15 : LineRow d y tables pictures out 15 ((¬ NoSize (d .active)) × NoLine (d .active) y)
+  unfolding lineRefusal
+  line-15 = line-row 15 refl (past refl _ 15 refl (tells-12 (d .active)) (own refl _ tells-number
+      (length-misses 15 refl refl refl)))
+
+  pub line-13 : LineRow d y tables pictures out 13
+      ((¬ NoSize (d .active)) × ((¬ NoLine (d .active) y) × WrongLine (d .active) out))
+  unfolding lineRefusal
+  line-13 = line-row 13 refl (past refl _ 13 refl (tells-12 (d .active)) (past refl _ 13 refl tells-number (own refl _
+      tells-length (last-misses (bitsIn d) (d .active) out tables pictures _ (tells-6 (bitsIn d) tables) 13 refl refl))))
+
+  pub line-6 : LineRow d y tables pictures out 6
+      ((¬ NoSize (d .active)) × ((¬ NoLine (d .active) y)
+      × ((¬ WrongLine (d .active) out) × WrongTables (bitsIn d) tables)))
+  unfolding lineRefusal
+  line-6 = line-row 6 refl (past refl _ 6 refl (tells-12 (d .active)) (past refl _ 6 refl tells-number
+      (past refl _ 6 refl tells-length (own refl _ (tells-6 (bitsIn d) tables)
+      (other 6 refl (tells-14 (d .active) pictures))))))
+
+  pub line-14 : LineRow d y tables pictures out 14
+      ((¬ NoSize (d .active)) × ((¬ NoLine (d .active) y)
+      × ((¬ WrongLine (d .active) out) × ((¬ WrongTables (bitsIn d) tables) × WrongPictures (d .active) pictures))))
+  unfolding lineRefusal
+  line-14 = line-row 14 refl (past refl _ 14 refl (tells-12 (d .active)) (past refl _ 14 refl tells-number
+      (past refl _ 14 refl tells-length (past refl _ 14 refl (tells-6 (bitsIn d) tables)
+      (given-when refl (tells-14 (d .active) pictures))))))
+
+  pub line-0 : Row (lineTold d y tables pictures out .answer) 0
+      ((¬ NoSize (d .active)) × ((¬ NoLine (d .active) y)
+      × ((¬ WrongLine (d .active) out) × ((¬ WrongTables (bitsIn d) tables) × (¬ WrongPictures (d .active) pictures)))))
+      ((lineTold d y tables pictures out .state ≡ withErrors d (errorsOf (sceneWith d tables pictures) 0 8 (d .errors)))
+      × (lineBytes d y tables pictures out ≡ frameLine (sceneWith d tables pictures) y))
+  unfolding lineRefusal lineTold lineBytes lineErrorsAfter lineAfter
+  line-0 =
+      let f = past refl _ 0 refl (tells-12 (d .active)) (past refl _ 0 refl tells-number
+      (past refl _ 0 refl tells-length (past refl _ 0 refl (tells-6 (bitsIn d) tables)
+      (passed-when refl (tells-14 (d .active) pictures))))) in
       record { only = f .0; when = f .1; leaves = λ q. (rw (eq-eqb _ 0 q), rw (eq-eqb _ 0 q)) }
 
 -- ---- put: "Order: put 6, 3, 4, 5."

@@ -6,7 +6,7 @@ use mathlib.Core.List.{List, [], _∷_, _++_}
 use native.Mathlib.Omega.{arith}
 use borrow.Author.Tests.{eq-eqb, ne-eqb}
 use lib.ListN.{length, getD, length-replicate, getD-replicate}
-use lib.Seq.{take-at}
+use lib.Seq.{take-at, take-all}
 use Rattle.bytes.specs.Bytes.{indexOf}
 use Rattle.lists.proofs.Call.{pair-is, tied-meets}
 use Rattle.lists.specs.Over.{over}
@@ -22,12 +22,14 @@ use Rattle.mix.specs.Blend.{blendOf}
 use Rattle.frames.specs.Pixel.{overAt, covers, alphaAt, ownAt, pictureAt}
 use Rattle.frames.specs.Band.{layerStep, depthStep, bandBy, bandByte, bandOf, markAt, missing, errorsOf}
 use Rattle.frames.specs.Frame as painting
+use Rattle.frames.specs.Line.{lineRefusal, lineRefusalOf, frameLine, lineAfter, lineErrorsAfter}
+use Rattle.frames.proofs.CallerLaws.{length-frameOf}
 use Rattle.display.specs.declared.Display.{Display}
 use Rattle.display.specs.State.{writeOf, selectOf, toggleOf, startOf}
 use Rattle.display.specs.Put.{putAnswer, putOf}
-use Rattle.display.specs.Paint.{fillTold, fillBytes, paintTold, paintBytes, frameTold, frameBytes}
+use Rattle.display.specs.Paint.{fillTold, fillBytes, paintTold, paintBytes, frameTold, frameBytes, lineTold, lineBytes}
 use Rattle.display.specs.Reached.{Reached, by-new, by-write, by-select, by-start}
-use Rattle.display.proofs.Unique.{paint-tie, frame-tie}
+use Rattle.display.proofs.Unique.{paint-tie, frame-tie, line-tie}
 use Rattle.words.specs.Image.{wordsFrom}
 use Rattle.host.specs.Host as host
 use Rattle.host.proofs.Unique.{host-tie}
@@ -44,7 +46,7 @@ use Rattle.lines.proofs.Unique.{run-line-tie, finish-tie, feed-tie}
 use Rattle.laws.specs.Small.{Write, writtenTo, onePixel, grey, night, written, started, sizeless, selecting}
 use Rattle.laws.specs.Small.{first, blank, filled, white, clear, dim, bright, image, line, page, block, slate, gathered}
 use Rattle.laws.specs.Small.{scene, painted, framed, hostScene, hosted, printed, Promised, replyWith, Paints}
-use Rattle.laws.specs.Small.{Frames, Hosts, Prints, Finishes, Feeds}
+use Rattle.laws.specs.Small.{lined, Frames, Scans, Hosts, Prints, Finishes, Feeds}
 
 -- ---- what is unfolded to compute: the words, a frame, a line
 
@@ -142,6 +144,14 @@ module _ (pictures : List ℕ) (two : length pictures ≡ 8) where
   unfolding frameTold paintTold painting.errorsAfter
   frame-accepted = passes
 
+  line-passes : lineRefusalOf (scene pictures) 0 filled ≡ done
+  unfolding wordsOpen lineRefusal
+  line-passes = rw (eq-eqb _ _ blank-long, two)
+
+  pub line-accepted : lineTold (started grey) 0 blank pictures filled .answer ≡ done
+  unfolding lineTold lineErrorsAfter
+  line-accepted = line-passes
+
   pub host-accepted : host.hostAnswer image 1 blank pictures filled ≡ done
   unfolding wordsOpen host.hostAnswer wordsFrom littleAt tab painting.paintRefusal
   host-accepted = rw (ne-eqb _ _ blank-rough, eq-eqb _ _ blank-long, two)
@@ -155,6 +165,11 @@ module _ (pictures : List ℕ) (two : length pictures ≡ 8) where
   pub framed-is : framed pictures ≡ painting.frameOf (scene pictures)
   unfolding frameBytes painting.frameAfter
   framed-is = rw passes
+
+  -- the frame has one line
+  pub lined-is : lined pictures ≡ painting.frameOf (scene pictures)
+  unfolding lineBytes lineAfter frameLine wordsOpen
+  lined-is = rw line-passes (take-all 4 (painting.frameOf (scene pictures)) (omega (arith, length-frameOf (scene pictures))))
 
   pub host-scene : hostScene pictures ≡ scene pictures
   unfolding wordsOpen wordsFrom littleAt tab
@@ -171,6 +186,7 @@ promised pictures bytes two is =
     record {
       paint = painted-is pictures two ∙ is;
       frame = framed-is pictures two ∙ is;
+      scan = lined-is pictures two ∙ is;
       host = hosted-is pictures two ∙ is;
     }
 
@@ -275,6 +291,9 @@ paints-is m = pair-is .1 (tied-meets paint-tie (m .1)) .1
 
 pub frames-is : {pictures out : List ℕ} → Frames pictures out → out ≡ framed pictures
 frames-is m = pair-is .1 (tied-meets frame-tie (m .1)) .1
+
+pub scans-is : {pictures out : List ℕ} → Scans pictures out → out ≡ lined pictures
+scans-is m = pair-is .1 (tied-meets line-tie (m .1)) .1
 
 pub hosts-is : {pictures out : List ℕ} → Hosts pictures out → out ≡ hosted pictures
 hosts-is m = pair-is .1 (tied-meets host-tie (m .1)) .1

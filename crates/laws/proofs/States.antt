@@ -11,9 +11,11 @@ use Rattle.answers.specs.Answers.{done, noSize}
 use Rattle.words.specs.Check.{Accepted}
 use Rattle.words.proofs.CheckLaws.{accepted-check}
 use Rattle.frames.specs.Frame as painting
+use Rattle.frames.specs.Line.{numberRefusal, lengthRefusal, lineRefusal}
 use Rattle.display.specs.declared.Display.{Display}
+use Rattle.display.specs.State.{bitsIn}
 use Rattle.display.specs.Reached.{Reached}
-use Rattle.display.specs.Paint.{fillTold, paintTold, frameTold}
+use Rattle.display.specs.Paint.{fillTold, paintTold, frameTold, lineTold}
 use Rattle.display.proofs.Sound.{reached-sound}
 use Rattle.host.proofs.HostLaws.{check-sized}
 use Rattle.laws.specs.States.{Unstarted, Fitting, bufferRefusal}
@@ -44,6 +46,10 @@ module _ (d : Display) (u : Unstarted d) (tables pictures out : List ℕ) where
   unfolding frameTold paintTold painting.errorsAfter painting.paintRefusal
   unstarted-frame = rw u
 
+  pub unstarted-line : (y : ℕ) → lineTold d y tables pictures out .answer ≡ noSize
+  unfolding lineTold lineRefusal
+  unstarted-line y = rw u
+
 -- ---- after it
 
 module _ {d : Display} (r : Reached d) (started : Unstarted d → ⊥) (tables pictures out : List ℕ) where
@@ -61,6 +67,15 @@ module _ {d : Display} (r : Reached d) (started : Unstarted d → ⊥) (tables p
   pub started-frame : frameTold d tables pictures out .answer ≡ bufferRefusal d tables pictures out
   unfolding frameTold paintTold painting.errorsAfter painting.paintRefusal
   started-frame = rw (sized r started)
+
+  -- 15, 13, 6, 14
+  pub started-line : (y : ℕ) → lineTold d y tables pictures out .answer
+      ≡ orElse (numberRefusal (d .active) y)
+      (orElse (lengthRefusal (d .active) (length out))
+      (orElse (painting.tablesRefusal (bitsIn d) (length tables))
+      (painting.picturesRefusal (d .active) (length pictures))))
+  unfolding lineTold lineRefusal
+  started-line y = rw (sized r started)
 
   -- so with a band 0..8 or a part of it, and the buffers that the words ask for, it is done
   module _ (fits : Fitting d tables pictures out) where

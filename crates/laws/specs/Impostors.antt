@@ -31,7 +31,7 @@ use Rattle.line.specs.Sizes.{mostPrinted}
 use Rattle.line.specs.Line.{startedOf, framedOf, replyOf, replyText}
 use Rattle.lines.specs.Sizes.{outLen}
 use Rattle.laws.specs.Small.{first, blank, filled, white, line, page, scene, hostScene, Paints, Frames, Hosts, Prints}
-use Rattle.laws.specs.Small.{Finishes, Feeds}
+use Rattle.laws.specs.Small.{Scans, Finishes, Feeds}
 
 -- ---- of any call
 
@@ -148,6 +148,7 @@ lineBy rule n pictures = over (printedBy rule first blank (line pictures)) (page
 pub record Breaks (rule : Rule) : Type 0 where
   pub paint : Paints white (paintBy rule white) → ⊥
   pub frame : Frames white (frameBy rule white) → ⊥
+  pub scan : Scans white (frameBy rule white) → ⊥
   pub host : Hosts white (hostBy rule white) → ⊥
   pub line : Prints white (lineBy rule mostPrinted white) → ⊥
   pub finish : Finishes white (lineBy rule outLen white) → ⊥

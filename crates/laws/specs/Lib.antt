@@ -1,5 +1,6 @@
 -- What the laws speak of. Assumes nothing.
 pub mod Painting
+pub mod Lines
 pub mod Wider
 pub mod Figures
 pub mod States

@@ -1,6 +1,6 @@
 -- The rows of 01 "Answers by number" and of 02's numbers: what a row says, and the case of each number. `proofs/Rows.antt`
 -- shows a row of each call. Assumes nothing.
-use Prim.Native.Nat.{ℕ, _+_, _*_, _<_}
+use Prim.Native.Nat.{ℕ, _+_, _*_, _≤_, _<_}
 use mathlib.Core.Path.{_≡_}
 use mathlib.Core.Bool.{true, false}
 use mathlib.Core.Logic.{_⊎_}
@@ -16,7 +16,7 @@ use Rattle.tables.specs.Selection.{endOf, namedBy}
 use Rattle.display.specs.declared.Display.{Display}
 use Rattle.display.specs.State.{bitsIn, stepped, startOf}
 use Rattle.display.specs.Put.{putOf, putTables}
-use Rattle.display.specs.Paint.{fillTold, fillBytes, paintTold, paintBytes, frameTold, frameBytes}
+use Rattle.display.specs.Paint.{fillTold, fillBytes, paintTold, paintBytes, frameTold, frameBytes, lineTold, lineBytes}
 use Rattle.host.specs.Host.{hostAnswer, hostOutput}
 
 -- a row of the table: "No.", "Given exactly when", "Leaves"
@@ -102,6 +102,14 @@ NoSize w = EmptyScreen w
 abbrev pub WrongOutput : List ℕ → List ℕ → Type 0
 WrongOutput w out = ¬ (length out ≡ pixelLen * (widthOf w * heightOf w))
 
+-- 02 K3, 15: "for a line number at or past the height"
+abbrev pub NoLine : List ℕ → ℕ → Type 0
+NoLine w y = heightOf w ≤ y
+
+-- and 13: "against 4·width"
+abbrev pub WrongLine : List ℕ → List ℕ → Type 0
+WrongLine w out = ¬ (length out ≡ pixelLen * widthOf w)
+
 -- 6: "tables not 29,696 bytes"; 02 K2: "6 compares with the chosen length", of so many bits a glyph pixel
 abbrev pub WrongTables : ℕ → List ℕ → Type 0
 WrongTables bits tables = ¬ (length tables ≡ tablesLen bits)
@@ -173,6 +181,12 @@ abbrev pub FrameRow : Display → List ℕ → List ℕ → List ℕ → ℕ →
 FrameRow d tables pictures out number Case =
     Row (frameTold d tables pictures out .answer) number Case
     ((frameTold d tables pictures out .state ≡ d) × (frameBytes d tables pictures out ≡ out))
+
+-- line, of its number, tables, pictures and output: "all unchanged"
+abbrev pub LineRow : Display → ℕ → List ℕ → List ℕ → List ℕ → ℕ → Type 0 → Type 0
+LineRow d y tables pictures out number Case =
+    Row (lineTold d y tables pictures out .answer) number Case
+    ((lineTold d y tables pictures out .state ≡ d) × (lineBytes d y tables pictures out ≡ out))
 
 -- the host entry, of image, frame number, tables, pictures and output: "every refusal leaves the output
 -- unchanged"

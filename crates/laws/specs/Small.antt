@@ -13,8 +13,8 @@ use Rattle.frames.specs.Scene.{Scene}
 use Rattle.display.specs.declared.Display.{Display}
 use Rattle.display.specs.declared.Told.{Told}
 use Rattle.display.specs.State.{fresh, writeOf, selectOf, startOf}
-use Rattle.display.specs.Paint.{sceneWith, paintBytes, frameBytes}
-use Rattle.display.proofs.Unique.{paintCall, frameCall}
+use Rattle.display.specs.Paint.{sceneWith, paintBytes, frameBytes, lineBytes}
+use Rattle.display.proofs.Unique.{paintCall, frameCall, lineCall}
 use Rattle.host.specs.Host.{sceneIn, hostOutput}
 use Rattle.host.proofs.Unique.{hostCall}
 use Rattle.hex.specs.Hex.{digitsOf}
@@ -172,6 +172,10 @@ painted pictures = paintBytes (started grey) 0 8 blank pictures filled
 abbrev pub framed : List ℕ → List ℕ
 framed pictures = frameBytes (started grey) blank pictures filled
 
+-- of its one line
+abbrev pub lined : List ℕ → List ℕ
+lined pictures = lineBytes (started grey) 0 blank pictures filled
+
 -- what the host entry paints from
 abbrev pub hostScene : List ℕ → Scene
 hostScene pictures = sceneIn image 1 blank pictures
@@ -188,6 +192,7 @@ printed n pictures = over (lineOf first blank (line pictures) .printed) (page n)
 pub record Promised (pictures bytes : List ℕ) : Type 0 where
   pub paint : painted pictures ≡ bytes
   pub frame : framed pictures ≡ bytes
+  pub scan : lined pictures ≡ bytes
   pub host : hosted pictures ≡ bytes
 
 -- the text of a line whose answer is 0, with no error, one by one pixel and a frame
@@ -203,6 +208,10 @@ Paints pictures out = (t : Told) × Meets paintCall (started grey, 0, 8, blank, 
 -- of frame
 abbrev pub Frames : List ℕ → List ℕ → Type 0
 Frames pictures out = (t : Told) × Meets frameCall (started grey, blank, pictures, filled) (t, out)
+
+-- of its one line
+abbrev pub Scans : List ℕ → List ℕ → Type 0
+Scans pictures out = (t : Told) × Meets lineCall (started grey, 0, blank, pictures, filled) (t, out)
 
 -- of the host entry
 abbrev pub Hosts : List ℕ → List ℕ → Type 0

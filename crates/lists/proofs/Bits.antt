@@ -4,7 +4,7 @@ use Prim.Native.Nat.{ℕ, zero, suc, _+_, _*_, _/_, _%_, _^_, _<_, max}
 use native.Mathlib.Nat.{one-mul}
 use native.Mathlib.Omega.{arith}
 use lib.Arith.{bin-ind}
-use lib.Bits.{bitXor, bitOr, or-step, or-zero-l, or-comm, differ, xor-step, xor-zero-l, xor-zero-r, xor-self, xor-shr}
+use lib.Bits.{bitXor, bitOr, or-step, or-zero-l, or-comm, or-self, differ, xor-step, xor-zero-l, xor-zero-r, xor-self, xor-shr}
 use lib.Pow.{shl-exact}
 
 -- ---- exclusive or
@@ -81,6 +81,11 @@ or-swap =
   where
     swap : (x y z : ℕ) → max (max x y) z ≡ max (max x z) y
     swap x y z = omega arith
+
+-- and once set stay so
+pub or-again : (e a : ℕ) → bitOr (bitOr e a) a ≡ bitOr e a
+or-again e a =
+    ap (λ (z : ℕ). bitOr z a) (or-comm e a) ∙ or-swap a e a ∙ ap (λ (z : ℕ). bitOr z e) (or-self a) ∙ or-comm a e
 
 -- ---- one bit, set by a shift
 

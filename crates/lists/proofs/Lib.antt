@@ -8,6 +8,7 @@ pub mod Zero
 pub mod Sum
 pub mod Bits
 pub mod Digits
+pub mod Row
 pub mod Run
 pub mod Steps
 pub mod Over

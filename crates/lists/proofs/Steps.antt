@@ -1,5 +1,5 @@
 -- Laws of `through` and `keep`. Assumes nothing.
-use mathlib.Core.Path.{_≡_, refl, ap, _∙_}
+use mathlib.Core.Path.{_≡_, refl, sym, ap, _∙_}
 use mathlib.Core.Bool.{Bool, true, false}
 use mathlib.Core.List.{List, [], _∷_, _++_}
 use Prim.Native.Nat.{ℕ, zero, suc, _+_, _≤_, _<_, zero-le, suc-le-suc}
@@ -55,6 +55,24 @@ through-keep t step (n ∷ l) p = go (t n) (through-keep t step l)
         ≡ through (λ n q. pick (t n) (step n q) q) l (pick b (step n p) p)
     go true h = h (step n p)
     go false h = h p
+
+-- ---- steps that may trade places, and that done once more change nothing
+
+module _ (step : ℕ → ℕ → ℕ) (swap : (n m q : ℕ) → step n (step m q) ≡ step m (step n q)) where
+  through-swap : (l : List ℕ) (n p : ℕ) → through step l (step n p) ≡ step n (through step l p)
+  unfolding through
+  through-swap [] n p = refl
+  through-swap (m ∷ l) n p = ap (through step l) (swap m n p) ∙ through-swap l n (step m p)
+
+  pub through-again : ((n q : ℕ) → step n (step n q) ≡ step n q) → (l : List ℕ) (p : ℕ)
+      → through step l (through step l p) ≡ through step l p
+  unfolding through
+  through-again twice [] p = refl
+  through-again twice (n ∷ l) p =
+      ap (through step l) (sym (through-swap l n (step n p)) ∙ ap (through step l) (twice n p))
+      ∙ through-again twice l (step n p)
+
+-- ---- what is kept
 
 pub keep-append : (t : ℕ → Bool) (l m : List ℕ) → keep t (l ++ m) ≡ keep t l ++ keep t m
 unfolding keep

@@ -2,4 +2,5 @@
 pub mod FrameLaws
 pub mod GroundLaws
 pub mod RowsLaws
+pub mod PartLaws
 pub mod Unique

@@ -1,27 +1,28 @@
-// The painted frame: fill, a band of depths, and both. Rows outside and layers inside, so that a line
-// of the frame stays at hand; what is the same for a whole painting is worked out before its rows.
+// The painted frame: fill, a band of depths, both, and a line of both. Rows outside and layers inside, so that a
+// line of the frame stays at hand; what is the same for a whole painting is worked out before its rows.
 ghost use mathlib.Core.Path.{_≡_};
-ghost use Prim.Native.Nat.{_≤_, _<_};
 ghost use lib.ListN.{length};
-ghost use Rattle.lists.specs.Choice.{choose};
-ghost use Rattle.words.specs.Fields.{widthOf};
+ghost use Rattle.lists.specs.Tab.{each};
 ghost use Rattle.frames.specs.Scene.{sceneOf};
-ghost use Rattle.frames.specs.Band.{bandOf, errorsOf};
-ghost use Rattle.frames.specs.Frame.{frameLen, fillOf, fillRefusal, fillAfter, paintAfter, frameAfter};
-ghost use Rattle.scanline.specs.Engine.Lines.{Lent};
-ghost use Rattle.paint.specs.Painted.{toldOf, outputOf};
+ghost use Rattle.frames.specs.Band.{errorsOf};
+ghost use Rattle.frames.specs.Frame.{fillRefusal, fillAfter, paintAfter, frameAfter};
+ghost use Rattle.frames.specs.Line.{lineAfter};
+ghost use Rattle.paint.specs.Engine.Rows.{partByte, PartFits};
+ghost use Rattle.paint.specs.Painted.{partTold, partOutput, toldOf, outputOf, lineToldOf};
 use crate::rows::paint_rows;
 use answers::DONE;
-use plan::marks_of;
+use plan::Part;
 use plan::plan_of;
 use profiles::Profile;
 use profiles::bits_of;
 use refusals::DEPTHS;
 use refusals::fill_refusal;
+use refusals::line_refusal;
 use refusals::paint_refusal;
 use scanline::ground::lay_ground;
 use words::fields::ground_of;
 use words::fields::is_shown;
+use words::fields::screen_height;
 
 mod rows;
 
@@ -46,35 +47,77 @@ pub fn fill(w: &[u32; 52], out: &mut [u8]) -> u8
     DONE
 }
 
-// The band's layers over the ground, and the error word after it, for buffers of the right lengths.
-// With the display off there are no layers.
-fn paint_band(
+// A part of a frame over the ground, where `fresh`, or over what `out` holds, and the error word after it, for buffers
+// of the right lengths. With the display off there are no layers.
+fn paint_part(
     profile: Profile,
     w: &[u32; 52],
     frame: u32,
     errors: u32,
-    low: u32,
-    high: u32,
+    part: Part,
     fresh: bool,
     tables: &[u8],
     pictures: &[u8],
     out: &mut [u8],
 ) -> u32
-    requires { ⌜ Lent (sceneOf profile (now w) frame (now tables) (now pictures)) × (length (now out) ≡ frameLen (now w))
-        × (0 < widthOf (now w)) × (low ≤ high) × (high ≤ 8) ⌝ }
+    requires { ⌜ PartFits (sceneOf profile (now w) frame (now tables) (now pictures)) part (now out) ⌝ }
     ensures errors { λ r. ⌜ r ≡ errorsOf
-        (sceneOf profile (now (w .entry)) frame (now (tables .entry)) (now (pictures .entry))) low high errors ⌝ }
-    ensures output { λ _. ⌜ now (out .exit) ≡ bandOf
         (sceneOf profile (now (w .entry)) frame (now (tables .entry)) (now (pictures .entry)))
-        low high (choose fresh (fillOf (now (w .entry))) (now (out .entry))) ⌝ }
+        (part .low) (part .high) errors ⌝ }
+    ensures output { λ _. ⌜ now (out .exit) ≡ each (partByte
+        (sceneOf profile (now (w .entry)) frame (now (tables .entry)) (now (pictures .entry))) part fresh)
+        (now (out .entry)) ⌝ }
 {
     if !is_shown(w) {
         lay_ground(out, fresh, ground_of(w));
         return errors;
     }
-    let plan = plan_of(bits_of(profile), w, frame, tables, low, high);
-    paint_rows(out, w, tables, pictures, fresh, plan);
-    marks_of(plan, errors)
+    let plan = plan_of(bits_of(profile), w, frame, errors, tables, part);
+    paint_rows(out, w, tables, pictures, fresh, plan, part);
+    plan.errors
+}
+
+// The same, unless it is refused with a number; a refusal changes nothing.
+fn paint_unless(
+    refusal: u8,
+    profile: Profile,
+    w: &[u32; 52],
+    frame: u32,
+    errors: u32,
+    part: Part,
+    fresh: bool,
+    tables: &[u8],
+    pictures: &[u8],
+    out: &mut [u8],
+) -> Painted
+    requires { ⌜ (refusal ≡ 0 → PartFits (sceneOf profile (now w) frame (now tables) (now pictures)) part (now out)) ⌝ }
+    ensures told { λ r. ⌜ r ≡ partTold refusal
+        (sceneOf profile (now (w .entry)) frame (now (tables .entry)) (now (pictures .entry))) part errors ⌝ }
+    ensures output { λ _. ⌜ now (out .exit) ≡ partOutput refusal
+        (sceneOf profile (now (w .entry)) frame (now (tables .entry)) (now (pictures .entry))) part fresh
+        (now (out .entry)) ⌝ }
+{
+    if refusal != DONE {
+        return Painted {
+            answer: refusal,
+            errors: errors,
+        };
+    }
+    let marks = paint_part(
+        profile,
+        w,
+        frame,
+        errors,
+        part,
+        fresh,
+        tables,
+        pictures,
+        out,
+    );
+    Painted {
+        answer: DONE,
+        errors: marks,
+    }
 }
 
 // The band's layers over the ground, where `fresh`, or over what `out` holds. Refused with 15, 12, 13, 6, 14 in
@@ -100,28 +143,24 @@ fn checked_band(
 {
     let bits = bits_of(profile);
     let refusal = paint_refusal(bits, w, low, high, out.len(), tables.len(), pictures.len());
-    if refusal != DONE {
-        return Painted {
-            answer: refusal,
-            errors: errors,
-        };
-    }
-    let marks = paint_band(
+    let part = Part {
+        low: low,
+        high: high,
+        first: 0,
+        count: screen_height(w) as u32,
+    };
+    paint_unless(
+        refusal,
         profile,
         w,
         frame,
         errors,
-        low,
-        high,
+        part,
         fresh,
         tables,
         pictures,
         out,
-    );
-    Painted {
-        answer: DONE,
-        errors: marks,
-    }
+    )
 }
 
 // Paints the layers of depths from `low` up to but not `high` over what `out` holds.
@@ -179,6 +218,46 @@ pub fn frame(
         0,
         DEPTHS,
         true,
+        tables,
+        pictures,
+        out,
+    )
+}
+
+// Paints line y of a whole frame into `out`, which has that line alone, whatever it held. Refused with 12, 15, 13,
+// 6, 14 in this order; a refusal changes nothing.
+pub fn line(
+    profile: Profile,
+    w: &[u32; 52],
+    frame: u32,
+    errors: u32,
+    y: u32,
+    tables: &[u8],
+    pictures: &[u8],
+    out: &mut [u8],
+) -> Painted
+    ensures told { λ r. ⌜ r ≡ lineToldOf
+        (sceneOf profile (now (w .entry)) frame (now (tables .entry)) (now (pictures .entry))) y (now (out .entry)) errors ⌝ }
+    ensures output { λ _. ⌜ now (out .exit) ≡ lineAfter
+        (sceneOf profile (now (w .entry)) frame (now (tables .entry)) (now (pictures .entry))) y (now (out .entry)) ⌝ }
+{
+    let bits = bits_of(profile);
+    let refusal = line_refusal(bits, w, y, out.len(), tables.len(), pictures.len());
+    let part = Part {
+        low: 0,
+        high: DEPTHS,
+        first: y,
+        count: 1,
+    };
+    let fresh = true;
+    paint_unless(
+        refusal,
+        profile,
+        w,
+        frame,
+        errors,
+        part,
+        fresh,
         tables,
         pictures,
         out,

@@ -1,19 +1,20 @@
-// The lines of a frame, from the first to the last.
+// The lines of a part of a frame, from the first to the last.
 ghost use mathlib.Core.Path.{_≡_};
+ghost use mathlib.Core.Bool.{true};
 ghost use Prim.Native.Nat.{_*_, _%_, _<_};
 ghost use lib.ListN.{length};
 ghost use Rattle.mix.specs.Pixel.{pixelLen};
 ghost use Rattle.words.specs.Fields.{widthOf};
-ghost use Rattle.frames.specs.Frame.{frameLen};
+ghost use Rattle.frames.specs.Line.{lineLen};
 ghost use Rattle.scanline.specs.Engine.Lines.{AllFit, Scratch, Lends};
 ghost use Rattle.paint.specs.Engine.Rows.{mostPixels, Holds, LineLaid, RowsLaid};
 use mix::PIXEL_LEN;
+use plan::Part;
 use plan::Plan;
 use scanline::ground::lay_first;
 use scanline::line::paint_line;
 use words::fields::Ground;
 use words::fields::ground_of;
-use words::fields::screen_height;
 use words::fields::screen_width;
 
 // Pixels that a line has at most, since its width is a field of 12 bits, and their bytes.
@@ -47,7 +48,7 @@ fn lay_line(
     y: usize,
 )
     requires { ⌜ (length (now line) % pixelLen ≡ 0) × AllFit (now tables) (now pictures) (length (now line)) plan ⌝ }
-    requires { ⌜ Scratch (length (now line)) (now indexes) (now row) ⌝ }
+    requires { ⌜ (plan .drawn ≡ true → Scratch (length (now line)) (now indexes) (now row)) ⌝ }
     ensures { λ _. ⌜ LineLaid (Lends (now (tables .entry)) (now (pictures .entry))) plan fresh ground y
         (now (line .entry)) (now (line .exit)) ⌝ }
 {
@@ -59,8 +60,49 @@ fn lay_line(
     paint_line(line, indexes, row, tables, pictures, plan, laid, y);
 }
 
-// The layers of a plan over the whole output, or over the background where the frame is a fresh one:
-// it is laid line by line, so that a line is still at hand when its layers come.
+// The layers of a plan over the lines of a part, or over the background where the frame is a fresh one: it is laid
+// line by line, so that a line is still at hand when its layers come. `out` has the part's lines.
+fn lay_lines(
+    out: &mut [u8],
+    indexes: &mut [u8],
+    row: &mut [u8],
+    w: &[u32; 52],
+    tables: &[u8],
+    pictures: &[u8],
+    fresh: bool,
+    plan: Plan,
+    part: Part,
+)
+    requires { ⌜ (length (now out) ≡ part .count * lineLen (now w)) × (0 < widthOf (now w)) ⌝ }
+    requires { ⌜ AllFit (now tables) (now pictures) (lineLen (now w)) plan ⌝ }
+    requires { ⌜ (plan .drawn ≡ true → Scratch (lineLen (now w)) (now indexes) (now row)) ⌝ }
+    ensures { λ _. ⌜ RowsLaid (Holds (now (w .entry)) (now (tables .entry)) (now (pictures .entry))) plan part fresh
+        (now (out .entry)) (now (out .exit)) ⌝ }
+{
+    let stride = PIXEL_LEN * (screen_width(w) as usize);
+    let ground = ground_of(w);
+    let first = part.first as usize;
+    let count = part.count as usize;
+    let mut k: usize = 0;
+    while k < count {
+        let at = k * stride;
+        lay_line(
+            &mut out[at..at + stride],
+            indexes,
+            row,
+            tables,
+            pictures,
+            fresh,
+            ground,
+            plan,
+            first + k,
+        );
+        k += 1;
+    }
+}
+
+// The same, with room to draw in where the plan has a graphics layer: to clear it costs more than many a line
+// that has none.
 pub fn paint_rows(
     out: &mut [u8],
     w: &[u32; 52],
@@ -68,31 +110,40 @@ pub fn paint_rows(
     pictures: &[u8],
     fresh: bool,
     plan: Plan,
+    part: Part,
 )
-    requires { ⌜ (length (now out) ≡ frameLen (now w)) × (0 < widthOf (now w)) ⌝ }
-    requires { ⌜ AllFit (now tables) (now pictures) (pixelLen * widthOf (now w)) plan ⌝ }
-    ensures { λ _. ⌜ RowsLaid (Holds (now (w .entry)) (now (tables .entry)) (now (pictures .entry))) plan fresh
+    requires { ⌜ (length (now out) ≡ part .count * lineLen (now w)) × (0 < widthOf (now w)) ⌝ }
+    requires { ⌜ AllFit (now tables) (now pictures) (lineLen (now w)) plan ⌝ }
+    ensures { λ _. ⌜ RowsLaid (Holds (now (w .entry)) (now (tables .entry)) (now (pictures .entry))) plan part fresh
         (now (out .entry)) (now (out .exit)) ⌝ }
 {
-    let stride = PIXEL_LEN * (screen_width(w) as usize);
-    let height = screen_height(w) as usize;
-    let ground = ground_of(w);
-    let mut indexes = index_room();
-    let mut row = pixel_room();
-    let mut y: usize = 0;
-    while y < height {
-        let at = y * stride;
-        lay_line(
-            &mut out[at..at + stride],
+    if plan.drawn {
+        let mut indexes = index_room();
+        let mut row = pixel_room();
+        lay_lines(
+            out,
             &mut indexes,
             &mut row,
+            w,
             tables,
             pictures,
             fresh,
-            ground,
             plan,
-            y,
+            part,
         );
-        y += 1;
+        return;
     }
+    let mut none: [u8; 0] = [];
+    let mut nothing: [u8; 0] = [];
+    lay_lines(
+        out,
+        &mut none,
+        &mut nothing,
+        w,
+        tables,
+        pictures,
+        fresh,
+        plan,
+        part,
+    );
 }

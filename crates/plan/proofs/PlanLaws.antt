@@ -1,6 +1,6 @@
--- How a plan grows by a layer, and what its marks are. Assumes nothing.
+-- How a plan grows by a layer, and what its error word is. Assumes nothing.
 use mathlib.Core.Path.{_≡_, refl, sym, ap, _∙_}
-use mathlib.Core.Bool.{true, false}
+use mathlib.Core.Bool.{Bool, true, false}
 use mathlib.Core.Logic.{⊎-elim}
 use mathlib.Core.List.{List, [], _∷_, _++_, append-nil}
 use Prim.Native.Nat.{ℕ, zero, suc, _+_, _≤_, _<_}
@@ -9,35 +9,39 @@ use native.Mathlib.Nat.{not-suc-le-zero}
 use native.Mathlib.Omega.{arith}
 use lib.ListN.{length, getD, set, take, length-set, length-append, length-take, List·getD-append}
 use lib.Seq.{getD-set-same, getD-set-other, getD-append-seam, take-all}
+use Rattle.lists.specs.Choice.{pick, either}
 use Rattle.lists.specs.Steps.{through, keep}
-use Rattle.lists.proofs.Choice.{split}
-use Rattle.lists.proofs.Steps.{through-next, keep-next, length-keep-le, Every, every-keep}
+use Rattle.lists.proofs.Choice.{split, either-any}
+use Rattle.lists.proofs.Steps.{through-none, through-next, through-keep, keep-next, length-keep-le, Every, every-keep}
 use Rattle.profiles.specs.Profile.{bitsOf}
 use Rattle.words.specs.Fields.{layerOf}
 use Rattle.words.specs.Order.{orderOf, within, bandLayers}
 use Rattle.words.proofs.OrderLaws.{Enabled, orderOf-enabled, length-orderOf-le}
 use Rattle.plan.specs.declared.Step.{Step}
 use Rattle.plan.specs.declared.Plan.{Plan}
+use Rattle.plan.specs.declared.Part.{Part}
 use Rattle.frames.specs.Scene.{Scene}
-use Rattle.frames.specs.Band.{missing, markAt}
-use Rattle.plan.specs.Engine.Plan.{OfLayer, OfLayers, OfFirst, Made, blankStep, Planned, Grown, Empty, Numbered}
-use Rattle.plan.specs.Engine.Plan.{marked, markedTo}
+use Rattle.frames.specs.Band.{missing, markAt, bandBy}
+use Rattle.frames.proofs.BandLaws.{band-through}
+use Rattle.plan.specs.Engine.Plan.{OfLayer, OfLayers, OfFirst, Made, blankStep, Planned, Pushed, Grown, Empty}
+use Rattle.plan.specs.Engine.Plan.{reaches, taken, partLayers, marked, markedBy, bandMarks}
 
-abbrev plan : List Step → ℕ → Plan
-plan steps count = record { steps = steps; count = count }
+-- a plan with another error word
+abbrev pub withErrors : Plan → ℕ → Plan
+withErrors p errors = record { steps = p .steps; count = p .count; drawn = p .drawn; errors = errors }
 
 -- ---- one layer more
 
 module _ (bits : ℕ) (w : List ℕ) (frame : ℕ) (tables : List ℕ) where
-  planned-more : (l : List ℕ) (p : Plan) (n : ℕ) (t : Step) → p .count < 8 → Made bits w frame tables n t
-      → Planned bits w frame tables l p
-      → Planned bits w frame tables (l ++ (n ∷ [])) (plan (set (p .steps) (p .count) t) (p .count + 1))
-  planned-more l p n t h m q =
+  -- behind the others
+  planned-more : (l : List ℕ) (p r : Plan) (n : ℕ) (t : Step) → p .count < 8 → Made bits w frame tables n t
+      → Pushed p t r → Planned bits w frame tables l p → Planned bits w frame tables (l ++ (n ∷ [])) r
+  planned-more l p r n t h m g q =
       let long : length (l ++ (n ∷ [])) ≡ length l + 1 = length-append l (n ∷ []) in
       record {
-        room = length-set (p .steps) (p .count) t ∙ q .room;
-        count = ap (λ (k : ℕ). k + 1) (q .count) ∙ sym long;
-        made = λ j b. ⊎-elim
+        room = rw (g .steps) (length-set (p .steps) (p .count) t ∙ q .room);
+        count = g .count ∙ ap (λ (k : ℕ). k + 1) (q .count) ∙ sym long;
+        made = λ j b. rw (g .steps) (⊎-elim
             (λ (lt : j < length l). rw (
               List·getD-append l (n ∷ []) 0 j lt,
               getD-set-other (p .steps) (p .count) j t blankStep (λ e. omega (arith, q .count)),
@@ -50,68 +54,112 @@ module _ (bits : ℕ) (w : List ℕ) (frame : ℕ) (tables : List ℕ) where
               ← (q .count),
               getD-set-same (p .steps) (p .count) t blankStep (omega (arith, q .room)),
             ) m)
+            (split j (length l)));
+        drawn = λ j b. ⊎-elim
+            (λ (lt : j < length l) (e : layerOf w (getD (l ++ (n ∷ [])) j 0) .graphics ≡ true).
+            g .drawn ∙ ap (either (t .layer .graphics)) (q .drawn j lt (rw (List·getD-append l (n ∷ []) 0 j lt) at e))
+            ∙ either-any (t .layer .graphics))
+            (λ (ge : length l ≤ j) (e : layerOf w (getD (l ++ (n ∷ [])) j 0) .graphics ≡ true).
+            let z : j ≡ length l = omega arith in
+            let f : t .layer .graphics ≡ true = rw (m .layer) (rw (z, getD-append-seam l n []) at e) in
+            g .drawn ∙ rw f)
             (split j (length l));
       }
 
-  module _ (a b n : ℕ) (p : Plan) where
-    pub grown-taken : (t : Step) → within a b (layerOf w n) ≡ true → p .count < 8 → Made bits w frame tables n t
-        → Grown bits w frame tables a b n p (plan (set (p .steps) (p .count) t) (p .count + 1))
-    grown-taken t e h m = record { grown = λ l q. rw e (planned-more l p n t h m q) }
+  -- with another error word it is the same plan
+  planned-kept : (l : List ℕ) (p : Plan) (e : ℕ) → Planned bits w frame tables l p
+      → Planned bits w frame tables l (withErrors p e)
+  planned-kept l p e q = record { room = q .room; count = q .count; made = q .made; drawn = q .drawn }
 
-    pub grown-left : within a b (layerOf w n) ≡ false → Grown bits w frame tables a b n p p
-    grown-left e = record { grown = λ l q. rw (e, append-nil l) q }
+  module _ (part : Part) (n : ℕ) (p : Plan) where
+    -- of another depth
+    pub grown-other : within (part .low) (part .high) (layerOf w n) ≡ false → Grown bits w frame tables part n p p
+    grown-other e = record { grown = λ l q. rw (e, append-nil l) q; marks = rw e }
+
+    module _ (errors : ℕ) (i : within (part .low) (part .high) (layerOf w n) ≡ true)
+        (e : errors ≡ markedBy bits w tables n (p .errors)) where
+      -- on none of the lines
+      pub grown-beside : reaches (part .first) (part .count) (layerOf w n) ≡ false
+          → Grown bits w frame tables part n p (withErrors p errors)
+      grown-beside o =
+          record { grown = λ l q. rw (i, o, append-nil l) (planned-kept l p errors q); marks = rw i e }
+
+      pub grown-taken : (t : Step) (r : Plan) → reaches (part .first) (part .count) (layerOf w n) ≡ true → p .count < 8
+          → Made bits w frame tables n t → Pushed (withErrors p errors) t r → Grown bits w frame tables part n p r
+      grown-taken t r o h m g =
+          record {
+            grown = λ l q. rw (i, o) (planned-more l (withErrors p errors) r n t h m g (planned-kept l p errors q));
+            marks = g .errors ∙ rw i e;
+          }
 
   -- ---- the loop over the order
 
-  -- the layers of the band among the first i of the order
-  abbrev pub bandTo : ℕ → ℕ → ℕ → List ℕ
-  bandTo a b i = keep (λ n. within a b (layerOf w n)) (take i (orderOf w))
+  -- the layers of the part among the first i of the order
+  abbrev pub partTo : Part → ℕ → List ℕ
+  partTo part i = keep (λ n. taken part (layerOf w n)) (take i (orderOf w))
 
-  pub plan-none : (a b : ℕ) (p : Plan) → Empty p → Planned bits w frame tables (bandTo a b 0) p
-  unfolding keep
-  plan-none a b p e = record { room = e .room; count = e .none; made = λ j h. absurd (not-suc-le-zero h) }
+  -- the error word after them
+  abbrev pub marksTo : Part → ℕ → ℕ → ℕ
+  marksTo part i errors =
+      through (λ n q. pick (within (part .low) (part .high) (layerOf w n)) (markedBy bits w tables n q) q)
+      (take i (orderOf w)) errors
 
-  pub plan-next : (a b i n : ℕ) (p r : Plan) → i < length (orderOf w) → n ≡ getD (orderOf w) i 0
-      → Planned bits w frame tables (bandTo a b i) p
-      → Grown bits w frame tables a b n p r → Planned bits w frame tables (bandTo a b (i + 1)) r
-  plan-next a b i n p r h e q g =
-      rw (keep-next (λ n. within a b (layerOf w n)) (orderOf w) i h, ← e) (g .grown (bandTo a b i) q)
+  module _ (part : Part) (errors : ℕ) where
+    -- what a turn of the loop leaves
+    abbrev pub PlannedTo : ℕ → Plan → Type 0
+    PlannedTo i p = Planned bits w frame tables (partTo part i) p × (p .errors ≡ marksTo part i errors)
 
-  pub plan-all : (a b i : ℕ) (p : Plan) → length (orderOf w) ≤ i → Planned bits w frame tables (bandTo a b i) p
-      → Planned bits w frame tables (bandLayers w a b) p
-  unfolding bandLayers
-  plan-all a b i p h q = rw (take-all i (orderOf w) h) at q
+    pub plan-none : (p : Plan) → Empty errors p → PlannedTo 0 p
+    unfolding keep
+    plan-none p e = (
+      record {
+        room = e .room;
+        count = e .none;
+        made = λ j h. absurd (not-suc-le-zero h);
+        drawn = λ j h. absurd (not-suc-le-zero h);
+      },
+      e .errors ∙ sym (through-none _ errors),
+    )
 
-  pub plan-room : (a b i : ℕ) (p : Plan) → i < length (orderOf w) → Planned bits w frame tables (bandTo a b i) p
-      → p .count < 8
-  plan-room a b i p h q =
-      omega (
-        arith,
-        q .count,
-        length-keep-le (λ n. within a b (layerOf w n)) (take i (orderOf w)),
-        length-take i (orderOf w),
-        length-orderOf-le w,
-      )
+    pub plan-next : (i n : ℕ) (p r : Plan) → i < length (orderOf w) → n ≡ getD (orderOf w) i 0 → PlannedTo i p
+        → Grown bits w frame tables part n p r → PlannedTo (i + 1) r
+    plan-next i n p r h e q g = (
+      rw (keep-next (λ n. taken part (layerOf w n)) (orderOf w) i h, ← e) (g .grown (partTo part i) (q .0)),
+      rw (through-next _ (orderOf w) i errors h, ← e, ← (q .1)) (g .marks),
+    )
+
+    pub plan-all : (i : ℕ) (p : Plan) → length (orderOf w) ≤ i → PlannedTo i p
+        → Planned bits w frame tables (partLayers w part) p
+        × (p .errors ≡ bandMarks bits w tables (part .low) (part .high) errors)
+    unfolding partLayers bandLayers
+    plan-all i p h q =
+        let all = take-all i (orderOf w) h in (
+          rw all at (q .0),
+          (rw all at (q .1))
+              ∙ sym (through-keep (λ n. within (part .low) (part .high) (layerOf w n)) (markedBy bits w tables)
+              (orderOf w) errors),
+        )
+
+    pub plan-room : (i : ℕ) (p : Plan) → i < length (orderOf w) → PlannedTo i p → p .count < 8
+    plan-room i p h q =
+        omega (
+          arith,
+          q .0 .count,
+          length-keep-le (λ n. taken part (layerOf w n)) (take i (orderOf w)),
+          length-take i (orderOf w),
+          length-orderOf-le w,
+        )
 
 -- ---- its layers are layers
 
-pub bandLayers-enabled : (w : List ℕ) (a b : ℕ) → Every (Enabled w) (bandLayers w a b)
-unfolding bandLayers
-bandLayers-enabled w a b = every-keep (Enabled w) _ (orderOf w) (orderOf-enabled w)
+pub partLayers-enabled : (w : List ℕ) (part : Part) → Every (Enabled w) (partLayers w part)
+unfolding partLayers
+partLayers-enabled w part = every-keep (Enabled w) _ (orderOf w) (orderOf-enabled w)
 
-pub length-bandLayers-le : (w : List ℕ) (a b : ℕ) → length (bandLayers w a b) ≤ 8
-unfolding bandLayers
-length-bandLayers-le w a b =
-    omega (arith, length-keep-le (λ n. within a b (layerOf w n)) (orderOf w), length-orderOf-le w)
-
-pub planned-numbered : (bits : ℕ) (w : List ℕ) (frame : ℕ) (tables : List ℕ) (a b : ℕ) (p : Plan)
-    → Planned bits w frame tables (bandLayers w a b) p → Numbered p
-planned-numbered bits w frame tables a b p q =
-    record {
-      few = omega (arith, q .count, length-bandLayers-le w a b);
-      number = λ j h. rw (q .made j (omega (arith, q .count)) .number)
-          (bandLayers-enabled w a b j (omega (arith, q .count)) .0);
-    }
+pub length-partLayers-le : (w : List ℕ) (part : Part) → length (partLayers w part) ≤ 8
+unfolding partLayers
+length-partLayers-le w part =
+    omega (arith, length-keep-le (λ n. taken part (layerOf w n)) (orderOf w), length-orderOf-le w)
 
 -- ---- its steps are the layers'
 
@@ -127,31 +175,14 @@ pub planned-first : (s : Scene) (l : List ℕ) (p : Plan) → OfLayers s l p →
 planned-first s l p q h =
     record { some = omega (arith, q .count); number = planned-number s l p 0 q h; layer = planned-layer s l p 0 q h }
 
--- ---- the marks
+-- ---- the error word is the scene's
 
-pub marked-next : (p : Plan) (k e r : ℕ) → r ≡ marked (getD (p .steps) k blankStep) (markedTo p k e)
-    → r ≡ markedTo p (k + 1) e
-unfolding markedTo
-marked-next p k e r q = rw add-one q
+-- of a frame layer no list's end counts
+pub marked-cong : (g e e′ : Bool) (n errors : ℕ) → (g ≡ true → e ≡ e′) → marked g e n errors ≡ marked g e′ n errors
+marked-cong true e e′ n errors f = ap (λ (t : Bool). marked true t n errors) (f refl)
+marked-cong false e e′ n errors f = refl
 
-pub marked-all : (p : Plan) (k e r : ℕ) → k ≡ p .count → r ≡ markedTo p k e → r ≡ markedTo p (p .count) e
-marked-all p k e r q h = rw q at h
-
-pub marked-none : (p : Plan) (e : ℕ) → e ≡ markedTo p 0 e
-unfolding markedTo
-marked-none p e = refl
-
-marked-is : (s : Scene) (n : ℕ) (t : Step) (e : ℕ) → Made (bitsOf (s .profile)) (s .words) (s .frame) (s .tables) n t
-    → marked t e ≡ markAt s n e
-unfolding marked markAt missing
-marked-is s n t e m = rw (m .number, m .layer, m .end)
-
-pub marks-is : (s : Scene) (l : List ℕ) (p : Plan) (k e : ℕ) → k ≤ length l
-    → Planned (bitsOf (s .profile)) (s .words) (s .frame) (s .tables) l p
-    → markedTo p k e ≡ through (markAt s) (take k l) e
-unfolding markedTo through
-marks-is s l p zero e h q = refl
-marks-is s l p (suc k) e h q =
-    marked-is s (getD l k 0) (getD (p .steps) k blankStep) _ (q .made k h)
-    ∙ ap (markAt s (getD l k 0)) (marks-is s l p k e (omega arith) q)
-    ∙ sym (through-next (markAt s) l k e h) ∙ ap (λ (j : ℕ). through (markAt s) (take j l) e) (add-one k)
+pub marks-is : (s : Scene) (a b errors : ℕ) → a ≤ b → b ≤ 8
+    → bandMarks (bitsOf (s .profile)) (s .words) (s .tables) a b errors ≡ bandBy (s .words) (markAt s) a b errors
+unfolding markedBy markAt missing
+marks-is s a b errors ab b8 = band-through (s .words) (markAt s) a b errors ab b8

@@ -1,16 +1,19 @@
-// What is the same for a whole painting, worked out once: for each layer of the band, in the order of
-// painting, where it lies on a line, its alpha, and where its picture or its tables stand. For `scanline`
-// and `paint` alone.
+// What is the same for a whole painting, worked out once: for each layer of the part that is painted, in the
+// order of painting, where it lies on a line, its alpha, and where its picture or its tables stand; and the error
+// bits. For `scanline` and `paint` alone.
 ghost use mathlib.Core.Path.{_≡_};
+ghost use mathlib.Core.Bool.{true};
 ghost use Prim.Native.Nat.{_+_, _<_, _≤_};
 ghost use lib.ListN.{length, take, drop};
+ghost use Rattle.words.specs.Fields.{layerOf};
 ghost use Rattle.words.specs.Pictures.{pictureStart};
-ghost use Rattle.tables.specs.Geometry.{tablesLen, listLen, coloursLen};
+ghost use Rattle.tables.specs.Geometry.{tablesLen, listLen, coloursLen, listKind};
 ghost use Rattle.draw.specs.Drawing.{listEnd};
+ghost use Rattle.frames.specs.Pixel.{bankBytes};
 ghost use Rattle.colours.specs.Rows.{PaletteOf};
 ghost use Rattle.lists.specs.Tab.{tab};
-ghost use Rattle.words.specs.Order.{bandLayers, within};
-ghost use Rattle.plan.specs.Engine.Plan.{Made, Planned, Grown, Empty, Numbered, marked, markedTo};
+ghost use Rattle.words.specs.Order.{within};
+ghost use Rattle.plan.specs.Engine.Plan.{Made, Planned, Pushed, Grown, Empty, reaches, partLayers, marked, bandMarks};
 use colours::palette;
 use draw::ListEnd;
 use draw::list_end;
@@ -49,10 +52,23 @@ pub struct Step {
     pub palette: [u32; 16],
 }
 
-// The first `count` of `steps` are the layers of a band, the lowest first.
+// What of a frame is painted: the layers of depths from `low` up to but not `high`, on `count` lines from
+// line `first` on.
+pub struct Part {
+    pub low: u32,
+    pub high: u32,
+    pub first: u32,
+    pub count: u32,
+}
+
+// The first `count` of `steps` are the layers of a part, the lowest first.
 pub struct Plan {
     pub steps: [Step; 8],
     pub count: usize,
+    // Whether one of them is a graphics layer.
+    pub drawn: bool,
+    // The error word, once all layers of the part's depths have set their bits, also those on none of its lines.
+    pub errors: u32,
 }
 
 // The end of the instruction list at a place of the tables.
@@ -71,9 +87,33 @@ fn palette_at(tables: &[u8], at: usize) -> [u32; 16]
     palette(&tables[at..at + COLOURS_LEN])
 }
 
-// Layer n, whose picture begins at `start`.
-fn step_of(bits: usize, w: &[u32; 52], frame: u32, tables: &[u8], start: usize, n: usize) -> Step
-    requires { ⌜ (bits ≤ 2) × (n < 8) × (length (now tables) ≡ tablesLen bits) × (start ≡ pictureStart (now w) n) ⌝ }
+// The end of layer n's list. A frame layer has none, and none is looked at.
+fn end_of(bits: usize, w: &[u32; 52], tables: &[u8], layer: Layer, n: usize) -> ListEnd
+    requires { ⌜ (bits ≤ 2) × (n < 8) × (length (now tables) ≡ tablesLen bits) ⌝ }
+    ensures { λ r. ⌜ (layer .graphics ≡ true
+        → r ≡ listEnd (bankBytes bits (now (w .entry)) (now (tables .entry)) n listKind)) ⌝ }
+{
+    if layer.graphics {
+        return end_at(tables, active_at(bits, w, n as u32, LIST));
+    }
+    ListEnd {
+        found: true,
+        count: 0,
+    }
+}
+
+// Layer n, whose picture begins at `start` and whose list ends at `end`.
+fn step_of(
+    bits: usize,
+    w: &[u32; 52],
+    frame: u32,
+    tables: &[u8],
+    start: usize,
+    end: ListEnd,
+    n: usize,
+) -> Step
+    requires { ⌜ (bits ≤ 2) × (n < 8) × (length (now tables) ≡ tablesLen bits) × (start ≡ pictureStart (now w) n)
+        × (layerOf (now w) n .graphics ≡ true → end ≡ listEnd (bankBytes bits (now w) (now tables) n listKind)) ⌝ }
     ensures { λ r. ⌜ Made bits (now (w .entry)) frame (now (tables .entry)) n r ⌝ }
 {
     let layer = layer_of(w, n);
@@ -87,7 +127,6 @@ fn step_of(bits: usize, w: &[u32; 52], frame: u32, tables: &[u8], start: usize, 
     let colours = active_at(bits, w, controller, COLOURS);
     let strings = active_at(bits, w, controller, STRINGS);
     let font = active_at(bits, w, controller, FONT);
-    let end = end_at(tables, list);
     let palette = palette_at(tables, colours);
     Step {
         number: n,
@@ -105,44 +144,89 @@ fn step_of(bits: usize, w: &[u32; 52], frame: u32, tables: &[u8], start: usize, 
     }
 }
 
-// Whether a layer's depth is one of the band's.
-fn is_within(layer: Layer, low: u32, high: u32) -> bool
-    ensures { λ r. ⌜ r ≡ within low high layer ⌝ }
+// Whether a layer's depth is one of the part's.
+fn is_within(layer: Layer, part: Part) -> bool
+    ensures { λ r. ⌜ r ≡ within (part .low) (part .high) layer ⌝ }
 {
-    if layer.depth < low {
+    if layer.depth < part.low {
         return false;
     }
-    layer.depth < high
+    layer.depth < part.high
 }
 
-// The plan with layer n behind it, if its depth is one of the band's.
+// Whether a layer reaches one of the part's lines.
+fn is_reached(layer: Layer, part: Part) -> bool
+    ensures { λ r. ⌜ r ≡ reaches (part .first) (part .count) layer ⌝ }
+{
+    let first = part.first as usize;
+    let top = layer.y as usize;
+    if top < first + (part.count as usize) {
+        return first < top + (layer.height as usize);
+    }
+    false
+}
+
+// The error word with bit 4n set, where layer n is a graphics layer whose list has no END.
+fn mark(errors: u32, layer: Layer, end: ListEnd, n: usize) -> u32
+    requires { ⌜ n < 8 ⌝ }
+    ensures { λ r. ⌜ r ≡ marked (layer .graphics) (end .found) n errors ⌝ }
+{
+    if !layer.graphics {
+        return errors;
+    }
+    if end.found {
+        return errors;
+    }
+    errors | (1 << (4 * (n as u32)))
+}
+
+// The plan with a step behind it.
+fn pushed(mut plan: Plan, step: Step) -> Plan
+    requires { ⌜ plan .count < 8 ⌝ }
+    ensures { λ r. ⌜ Pushed plan step r ⌝ }
+{
+    let at = plan.count;
+    plan.steps[at] = step;
+    plan.count = at + 1;
+    if step.layer.graphics {
+        plan.drawn = true;
+    }
+    plan
+}
+
+// The plan with layer n behind it, if its depth is one of the part's and it reaches one of the part's lines; of a
+// layer that reaches none, only its list's END is asked for.
 fn with_layer(
-    mut plan: Plan,
+    plan: Plan,
     bits: usize,
     w: &[u32; 52],
     frame: u32,
     tables: &[u8],
     starts: [usize; 8],
     n: usize,
-    low: u32,
-    high: u32,
+    part: Part,
 ) -> Plan
     requires { ⌜ (bits ≤ 2) × (n < 8) × (length (now tables) ≡ tablesLen bits) × (starts ≡ tab 8 (pictureStart (now w)))
         × (plan .count < 8) ⌝ }
-    ensures { λ r. ⌜ Grown bits (now (w .entry)) frame (now (tables .entry)) low high n plan r ⌝ }
+    ensures { λ r. ⌜ Grown bits (now (w .entry)) frame (now (tables .entry)) part n plan r ⌝ }
 {
-    if is_within(layer_of(w, n), low, high) {
-        let at = plan.count;
-        plan.steps[at] = step_of(bits, w, frame, tables, starts[n], n);
-        plan.count = at + 1;
+    let layer = layer_of(w, n);
+    if !is_within(layer, part) {
         return plan;
     }
-    plan
+    let end = end_of(bits, w, tables, layer, n);
+    let mut marked = plan;
+    marked.errors = mark(plan.errors, layer, end, n);
+    if !is_reached(layer, part) {
+        return marked;
+    }
+    let step = step_of(bits, w, frame, tables, starts[n], end, n);
+    pushed(marked, step)
 }
 
-// A plan with no layer yet.
-fn empty() -> Plan
-    ensures { λ r. ⌜ Empty r ⌝ }
+// A plan with no layer yet, and an error word.
+fn empty(errors: u32) -> Plan
+    ensures { λ r. ⌜ Empty errors r ⌝ }
 {
     let blankStep = Step {
         number: 0,
@@ -177,53 +261,34 @@ fn empty() -> Plan
     Plan {
         steps: [blankStep; 8],
         count: 0,
+        drawn: false,
+        errors: errors,
     }
 }
 
-// The layers of the band, in the order of painting.
-pub fn plan_of(bits: usize, w: &[u32; 52], frame: u32, tables: &[u8], low: u32, high: u32) -> Plan
+// The layers of a part, in the order of painting, and the error word after them.
+pub fn plan_of(
+    bits: usize,
+    w: &[u32; 52],
+    frame: u32,
+    errors: u32,
+    tables: &[u8],
+    part: Part,
+) -> Plan
     requires { ⌜ (bits ≤ 2) × (length (now tables) ≡ tablesLen bits) ⌝ }
-    ensures { λ r. ⌜ Planned bits (now (w .entry)) frame (now (tables .entry))
-        (bandLayers (now (w .entry)) low high) r ⌝ }
+    ensures layers { λ r. ⌜ Planned bits (now (w .entry)) frame (now (tables .entry)) (partLayers (now (w .entry)) part) r ⌝ }
+    ensures errors { λ r. ⌜ r .errors
+        ≡ bandMarks bits (now (w .entry)) (now (tables .entry)) (part .low) (part .high) errors ⌝ }
 {
     let order = order_of(w);
     let starts = pictures_of(w).starts;
     let layers = order.layers;
     let count = order.count;
-    let mut plan = empty();
+    let mut plan = empty(errors);
     let mut i: usize = 0;
     while i < count {
-        plan = with_layer(plan, bits, w, frame, tables, starts, layers[i], low, high);
+        plan = with_layer(plan, bits, w, frame, tables, starts, layers[i], part);
         i += 1;
     }
     plan
-}
-
-// The error word with bit 4n set, where layer n is a graphics layer whose list has no END.
-fn mark(errors: u32, step: Step) -> u32
-    requires { ⌜ step .number < 8 ⌝ }
-    ensures { λ r. ⌜ r ≡ marked step errors ⌝ }
-{
-    if !step.layer.graphics {
-        return errors;
-    }
-    if step.end.found {
-        return errors;
-    }
-    errors | (1 << (4 * (step.number as u32)))
-}
-
-// The error word after painting the plan's layers.
-pub fn marks_of(plan: Plan, errors: u32) -> u32
-    requires { ⌜ Numbered plan ⌝ }
-    ensures { λ r. ⌜ r ≡ markedTo plan (plan .count) errors ⌝ }
-{
-    let mut found = errors;
-    let mut i: usize = 0;
-    while i < plan.count {
-        let step = plan.steps[i];
-        found = mark(found, step);
-        i += 1;
-    }
-    found
 }

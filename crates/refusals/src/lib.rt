@@ -2,9 +2,11 @@
 ghost use mathlib.Core.Path.{_≡_};
 ghost use Prim.Native.Nat.{_≤_};
 ghost use Rattle.frames.specs.Frame.{bandRefusal, sizeRefusal, outputRefusal, tablesRefusal, picturesRefusal};
-ghost use Rattle.frames.specs.Frame.{fillRefusal, paintRefusal};
+ghost use Rattle.frames.specs.Frame.{lentRefusal, fillRefusal, paintRefusal};
+ghost use Rattle.frames.specs.Line.{numberRefusal, lengthRefusal, lineRefusal};
 use answers::DONE;
 use answers::NO_BAND;
+use answers::NO_LINE;
 use answers::NO_SIZE;
 use answers::OUTPUT_LENGTH;
 use answers::PICTURES_LENGTH;
@@ -78,6 +80,14 @@ fn pictures_refusal(w: &[u32; 52], pictures: usize) -> u8
     PICTURES_LENGTH
 }
 
+// 6 and then 14, of what is lent to read.
+fn lent_refusal(bits: usize, w: &[u32; 52], tables: usize, pictures: usize) -> u8
+    requires { ⌜ bits ≤ 2 ⌝ }
+    ensures { λ r. ⌜ r ≡ lentRefusal bits (now (w .entry)) tables pictures ⌝ }
+{
+    or_else(tables_refusal(bits, tables), pictures_refusal(w, pictures))
+}
+
 // What a fill answers for an output so long: 0, or the first of 12, 13.
 pub fn fill_refusal(w: &[u32; 52], out: usize) -> u8
     ensures { λ r. ⌜ r ≡ fillRefusal (now (w .entry)) out ⌝ }
@@ -99,7 +109,45 @@ pub fn paint_refusal(
     requires { ⌜ bits ≤ 2 ⌝ }
     ensures { λ r. ⌜ r ≡ paintRefusal bits (now (w .entry)) low high out tables pictures ⌝ }
 {
-    let lent = or_else(tables_refusal(bits, tables), pictures_refusal(w, pictures));
+    let lent = lent_refusal(bits, w, tables, pictures);
     let sized = or_else(size_refusal(w), or_else(output_refusal(w, out), lent));
     or_else(band_refusal(low, high), sized)
+}
+
+// 15, of a line's number.
+fn number_refusal(w: &[u32; 52], y: u32) -> u8
+    ensures { λ r. ⌜ r ≡ numberRefusal (now (w .entry)) y ⌝ }
+{
+    if y < (screen_height(w) as u32) {
+        return DONE;
+    }
+    NO_LINE
+}
+
+// 13, of a line so long.
+fn length_refusal(w: &[u32; 52], out: usize) -> u8
+    ensures { λ r. ⌜ r ≡ lengthRefusal (now (w .entry)) out ⌝ }
+{
+    if out == PIXEL_LEN * (screen_width(w) as usize) {
+        return DONE;
+    }
+    OUTPUT_LENGTH
+}
+
+// What line y answers for buffers so long: 0, or the first of 12, 15, 13, 6, 14. A glyph's pixel has so many
+// bits.
+pub fn line_refusal(
+    bits: usize,
+    w: &[u32; 52],
+    y: u32,
+    out: usize,
+    tables: usize,
+    pictures: usize,
+) -> u8
+    requires { ⌜ bits ≤ 2 ⌝ }
+    ensures { λ r. ⌜ r ≡ lineRefusal bits (now (w .entry)) y out tables pictures ⌝ }
+{
+    let lent = lent_refusal(bits, w, tables, pictures);
+    let placed = or_else(number_refusal(w, y), or_else(length_refusal(w, out), lent));
+    or_else(size_refusal(w), placed)
 }

@@ -1,31 +1,33 @@
 -- A run blended over its part of a line is the layer over that line. Assumes nothing.
 use mathlib.Core.Path.{_≡_, refl, sym, ap, _∙_}
-use mathlib.Core.Bool.{Bool, true, false}
+use mathlib.Core.Bool.{Bool, true, false, true≢false}
 use mathlib.Core.Logic.{_⊎_, inl, inr, ⊎-elim}
 use mathlib.Core.List.{List, _++_}
 use Prim.Native.Nat.{ℕ, _+_, _-_, _*_, _/_, _%_, _≤_, _<_}
 use native.Mathlib.Numerals.{add-one}
 use native.Mathlib.Omega.{arith}
+use borrow.Author.Tests.{lt-ltb}
 use lib.Dec.{eqb}
 use lib.ListN.{length, getD, take, drop, take-append-drop, drop-of-length-le}
 use lib.Seq.{take-at, drop-cons}
-use Rattle.lists.specs.Choice.{pick}
+use Rattle.lists.specs.Choice.{pick, both}
 use Rattle.lists.specs.Tab.{each}
 use Rattle.lists.specs.Steps.{through}
 use Rattle.lists.proofs.Choice.{pick-cong}
 use Rattle.lists.proofs.Tab.{each-part, each-id, each-cong, each-cong-below, each-turn, each-then, getD-part}
-use Rattle.lists.proofs.Steps.{through-none, through-id, through-append, through-next}
+use Rattle.lists.proofs.Steps.{through-none, through-id, through-cong, through-append, through-next, through-keep}
 use Rattle.mix.specs.Blend.{blendOf}
 use Rattle.words.specs.declared.fields.Layer.{Layer}
 use Rattle.words.specs.Fields.{widthOf, layerOf}
 use Rattle.span.specs.Span.{overByte}
 use Rattle.plan.specs.declared.Step.{Step}
-use Rattle.words.specs.Order.{bandLayers}
+use Rattle.words.specs.Order.{orderOf, within, bandLayers}
 use Rattle.frames.specs.Scene.{Scene}
 use Rattle.frames.proofs.PixelLaws.{Covered, over-outside, over-inside}
 use Rattle.frames.specs.Pixel.{pictureAt, ownAt, fadedOf, alphaAt, overAt}
 use Rattle.frames.specs.Band.{bandBy}
-use Rattle.plan.specs.Engine.Plan.{leftEnd, wideOf, OfLayer}
+use Rattle.plan.specs.declared.Part.{Part}
+use Rattle.plan.specs.Engine.Plan.{leftEnd, wideOf, reaches, taken, partLayers, OfLayer}
 use Rattle.scanline.specs.Engine.Lines.{OnRow, rowStart, drawnRow, lineByte, lineTo, lineFrom, bandLine, Shows}
 use Rattle.scanline.specs.Engine.Lines.{Draws, OfLine}
 use Rattle.plan.proofs.PartLaws.{part-is}
@@ -38,16 +40,19 @@ pub over-own : (run : List ℕ) (alpha : ℕ) (line : List ℕ)
 unfolding overByte
 over-own run alpha line = each-cong _ _ line (λ i p. refl)
 
--- ---- a line that the layer does not reach
+-- ---- a pixel, and a line, that the layer does not reach
+
+byte-beside : (s : Scene) (y n i p : ℕ) → (Covered (layerOf (s .words) n) y (i / 4) → ⊥) → lineByte s y n i p ≡ p
+unfolding lineByte
+byte-beside s y n i p out = go (eqb (i % 4) 3)
+  where
+    go : (t : Bool) → pick t p (overAt s y (i / 4) (i % 4) n p) ≡ p
+    go true = refl
+    go false = over-outside s (i / 4) y (i % 4) n p out
 
 pub line-outside : (s : Scene) (y n : ℕ) (line : List ℕ) → ((x : ℕ) → Covered (layerOf (s .words) n) y x → ⊥)
     → line ≡ each (lineByte s y n) line
-unfolding lineByte
-line-outside s y n line out = each-id _ line (λ i p. go (eqb (i % 4) 3) i p)
-  where
-    go : (t : Bool) (i p : ℕ) → pick t p (overAt s y (i / 4) (i % 4) n p) ≡ p
-    go true i p = refl
-    go false i p = over-outside s (i / 4) y (i % 4) n p (out (i / 4))
+line-outside s y n line out = each-id _ line (λ i p. byte-beside s y n i p (out (i / 4)))
 
 -- ---- one that it reaches: the run holds the layer's pixels of that row
 
@@ -91,18 +96,13 @@ module _ (s : Scene) (y n left wide : ℕ) (src : List ℕ)
 
   byte-outside : (i p : ℕ) → i < 4 * widthOf (s .words) → (i < 4 * left) ⊎ (4 * left + 4 * wide ≤ i)
       → lineByte s y n i p ≡ p
-  unfolding lineByte
-  byte-outside i p h o = go (eqb (i % 4) 3)
+  byte-outside i p h o = byte-beside s y n i p (λ k. ⊎-elim (λ lt. beside k lt) (λ ge. behind k ge) o)
     where
-      go : (t : Bool) → pick t p (overAt s y (i / 4) (i % 4) n p) ≡ p
-      go true = refl
-      go false = over-outside s (i / 4) y (i % 4) n p (λ k. ⊎-elim (λ lt. beside k lt) (λ ge. behind k ge) o)
-        where
-          beside : Covered (layerOf (s .words) n) y (i / 4) → i < 4 * left → ⊥
-          beside k lt = omega (arith, k .left)
+      beside : Covered (layerOf (s .words) n) y (i / 4) → i < 4 * left → ⊥
+      beside k lt = omega (arith, k .left)
 
-          behind : Covered (layerOf (s .words) n) y (i / 4) → 4 * left + 4 * wide ≤ i → ⊥
-          behind k ge = omega (arith, k .right)
+      behind : Covered (layerOf (s .words) n) y (i / 4) → 4 * left + 4 * wide ≤ i → ⊥
+      behind k ge = omega (arith, k .right)
 
   pub layer-over : (line part : List ℕ) → length line ≡ 4 * widthOf (s .words)
       → part ≡ each (overByte src (layerOf (s .words) n .global) (fadedOf (s .frame) (layerOf (s .words) n)))
@@ -204,6 +204,54 @@ line-band s a b y i p ab b8 = go (eqb (i % 4) 3)
     go true = through-id _ (bandLayers (s .words) a b) p (λ n q. refl)
     go false = band-through (s .words) (overAt s y (i / 4) (i % 4)) a b p ab b8
 
+-- ---- all layers of a part, on one of its lines: the band's others do not reach it
+
+module _ (s : Scene) (part : Part) (y : ℕ) (from : part .first ≤ y) (to : y < part .first + part .count) where
+  byte-reached : (n i q : ℕ) → reaches (part .first) (part .count) (layerOf (s .words) n) ≡ false → lineByte s y n i q ≡ q
+  byte-reached n i q e =
+      byte-beside s y n i q (λ k.
+      let l = layerOf (s .words) n in
+      let t : reaches (part .first) (part .count) l ≡ true = rw (
+        lt-ltb (l .y) (part .first + part .count) (omega (arith, k .top)),
+        lt-ltb (part .first) (l .y + l .height) (omega (arith, k .bottom)),
+      ) in
+      true≢false (sym t ∙ e))
+
+  step-taken : (n i q : ℕ)
+      → pick (taken part (layerOf (s .words) n)) (lineByte s y n i q) q
+      ≡ pick (within (part .low) (part .high) (layerOf (s .words) n)) (lineByte s y n i q) q
+  step-taken n i q = go (within (part .low) (part .high) (layerOf (s .words) n))
+      (reaches (part .first) (part .count) (layerOf (s .words) n)) (byte-reached n i q)
+    where
+      go : (t r : Bool) → (r ≡ false → lineByte s y n i q ≡ q)
+          → pick (both t r) (lineByte s y n i q) q ≡ pick t (lineByte s y n i q) q
+      go true true f = refl
+      go true false f = sym (f refl)
+      go false r f = refl
+
+  line-part : (i p : ℕ) → part .low ≤ part .high → part .high ≤ 8
+      → through (λ n q. lineByte s y n i q) (partLayers (s .words) part) p ≡ bandLine s (part .low) (part .high) y i p
+  unfolding partLayers bandLayers
+  line-part i p ab b8 =
+      through-keep (λ n. taken part (layerOf (s .words) n)) (λ n q. lineByte s y n i q) (orderOf (s .words)) p
+      ∙ through-cong _ _ (orderOf (s .words)) p (λ n q. step-taken n i q)
+      ∙ sym (through-keep (λ n. within (part .low) (part .high) (layerOf (s .words) n)) (λ n q. lineByte s y n i q)
+      (orderOf (s .words)) p)
+      ∙ line-band s (part .low) (part .high) y i p ab b8
+
+  -- the first k and then the others
+  pub line-all : (k : ℕ) (line line′ line₀ : List ℕ) → part .low ≤ part .high → part .high ≤ 8
+      → line ≡ each (lineTo s y (partLayers (s .words) part) k) line₀
+      → line′ ≡ each (lineFrom s y (partLayers (s .words) part) k) line
+      → line′ ≡ each (bandLine s (part .low) (part .high) y) line₀
+  unfolding lineTo lineFrom
+  line-all k line line′ line₀ ab b8 e f =
+      let l = partLayers (s .words) part in
+      each-then (lineTo s y l k) (lineFrom s y l k) _ line₀ e f
+      (λ i p. sym (line-part i p ab b8)
+      ∙ ap (λ (m : List ℕ). through (λ n q. lineByte s y n i q) m p) (sym (take-append-drop k l))
+      ∙ through-append (λ n q. lineByte s y n i q) (take k l) (drop k l) p)
+
 module _ (s : Scene) (y : ℕ) where
   pub line-none : (l line : List ℕ) → line ≡ each (lineTo s y l 0) line
   unfolding lineTo
@@ -231,15 +279,3 @@ module _ (s : Scene) (y : ℕ) where
       → line ≡ whole
   unfolding lineFrom
   line-done l line k h e = each-id _ line (λ i p. rw (drop-of-length-le l {i = k} h) (through-none _ p)) ∙ e
-
-  -- the first k and then the others
-  pub line-all : (a b k : ℕ) (line line′ line₀ : List ℕ) → a ≤ b → b ≤ 8
-      → line ≡ each (lineTo s y (bandLayers (s .words) a b) k) line₀
-      → line′ ≡ each (lineFrom s y (bandLayers (s .words) a b) k) line → line′ ≡ each (bandLine s a b y) line₀
-  unfolding lineTo lineFrom
-  line-all a b k line line′ line₀ ab b8 e f =
-      let l = bandLayers (s .words) a b in
-      each-then (lineTo s y l k) (lineFrom s y l k) _ line₀ e f
-      (λ i p. sym (line-band s a b y i p ab b8)
-      ∙ ap (λ (m : List ℕ). through (λ n q. lineByte s y n i q) m p) (sym (take-append-drop k l))
-      ∙ through-append (λ n q. lineByte s y n i q) (take k l) (drop k l) p)

@@ -114,7 +114,7 @@ fn layer_line(
     y: usize,
 )
     requires { ⌜ Fit (now tables) (now pictures) (length (now line)) step ⌝ }
-    requires { ⌜ Scratch (length (now line)) (now indexes) (now row) ⌝ }
+    requires { ⌜ (step .layer .graphics ≡ true → Scratch (length (now line)) (now indexes) (now row)) ⌝ }
     ensures { λ _. ⌜ Over (Lends (now (tables .entry)) (now (pictures .entry))) step y
         (now (line .entry)) (now (line .exit)) ⌝ }
 {
@@ -144,7 +144,7 @@ pub fn paint_line(
     y: usize,
 )
     requires { ⌜ AllFit (now tables) (now pictures) (length (now line)) plan ⌝ }
-    requires { ⌜ Scratch (length (now line)) (now indexes) (now row) ⌝ }
+    requires { ⌜ (plan .drawn ≡ true → Scratch (length (now line)) (now indexes) (now row)) ⌝ }
     ensures { λ _. ⌜ OverFrom (Lends (now (tables .entry)) (now (pictures .entry))) plan laid y
         (now (line .entry)) (now (line .exit)) ⌝ }
 {

@@ -1,4 +1,4 @@
-//! 01 "Answers by number", row for row, the number that 02 adds, and the one that the calls from C
+//! 01 "Answers by number", row for row, what 02 adds to them, and the number that the calls from C
 //! have beside them.
 
 /// "done"
@@ -28,11 +28,12 @@ pub const LAYER_OUTSIDE: u32 = 10;
 pub const SAME_DEPTH: u32 = 11;
 /// "fill, paint: active output size still 0"
 pub const NOTHING_ACTIVE: u32 = 12;
-/// "fill, paint: output not 4·width·height bytes"
+/// "fill, paint: output not 4·width·height bytes"; 02 K3: "13 against 4·width"
 pub const WRONG_OUTPUT: u32 = 13;
 /// "paint: pictures of the wrong total length"
 pub const WRONG_PICTURES: u32 = 14;
-/// "paint a band: lower end above upper, or upper above 8"
+/// "paint a band: lower end above upper, or upper above 8"; 02 K3: "15 for a line number at or past
+/// the height"
 pub const WRONG_BAND: u32 = 15;
 /// "host entry: register image not 208 bytes"
 pub const WRONG_IMAGE: u32 = 16;

@@ -253,6 +253,66 @@ pub fn with_fault(fault: impl Fn(Door, &mut Stage, &mut Told)) -> impl Fn(&[Step
     }
 }
 
+/// Makes the calls of a row with both and answers what both tell of each, or says where they part.
+pub fn compare(calls: Calls, steps: &[Step]) -> Result<Vec<Told>, String> {
+    let mut stage = Stage::new();
+    let mut theirs = calls(steps).into_iter();
+    let mut all = Vec::new();
+    for (i, step) in steps.iter().enumerate() {
+        let Some(ours) = stage.play(step) else { continue };
+        let place = format!("at step {} of {}, {}", i + 1, steps.len(), shown(step));
+        let theirs = theirs.next().ok_or(format!("{place}: the program ends"))?;
+        if let Some(told) = difference(&ours, &theirs) {
+            return Err(format!("{place}: {told}"));
+        }
+        all.push(theirs);
+    }
+    Ok(all)
+}
+
+fn difference(ours: &Told, theirs: &Told) -> Option<String> {
+    if theirs.answer != ours.answer {
+        return Some(format!("it answers {}, we answer {}", theirs.answer, ours.answer));
+    }
+    if theirs.is_touched {
+        return Some("an input, or a byte beside a buffer, is touched".into());
+    }
+    if theirs.changes != ours.changes {
+        let (theirs, ours) = (&theirs.changes, &ours.changes);
+        return Some(format!("of the tables it changes {theirs:?}, and we {ours:?}"));
+    }
+    for (name, ours_bytes, theirs_bytes) in [
+        ("state", &ours.state, &theirs.state),
+        ("output", &ours.out, &theirs.out),
+        ("count", &ours.count, &theirs.count),
+    ] {
+        let other = (0..ours_bytes.len()).find(|&at| ours_bytes[at] != theirs_bytes[at]);
+        if let Some(at) = other {
+            let (theirs, ours) = (theirs_bytes[at], ours_bytes[at]);
+            return Some(format!("byte {at} of the {name} is {theirs}, and {ours} with us"));
+        }
+    }
+    None
+}
+
+/// A call with its numbers and what it is lent, or the words that are stored and not 0.
+pub fn shown(step: &Step) -> String {
+    match step {
+        Step::Call { door, a, b, lent, null } => {
+            let lent = lent.map(|lent| format!("{}+{}", lent.length, lent.past)).join(" ");
+            let empty = if *null { ", NULL for none" } else { "" };
+            format!("{door:?} {a:#x} {b:#x}, lent {lent}{empty}")
+        }
+        Step::Store { buffer, bytes } => {
+            let word = |chunk: &[u8]| chunk.iter().rev().fold(0, |n, &b| n << 8 | u32::from(b));
+            let words = bytes.chunks(4).map(word).enumerate().filter(|&(_, word)| word != 0);
+            let words: String = words.map(|(i, word)| format!(" {}: {word:08X}", 4 * i)).collect();
+            let name = ["state", "tables", "pictures", "output", "run", "count"][*buffer];
+            format!("{name} of {} bytes:{words}", bytes.len())
+        }
+    }
+}
+
 /// The lines of a text, each with its line feed; the last may have none.
 pub fn lines(text: &[u8]) -> Vec<Vec<u8>> {
     text.split_inclusive(|&byte| byte == b'\n').map(<[u8]>::to_vec).collect()

@@ -1,5 +1,5 @@
 //! 01 "What the display is made of", "Registers", "Tables" and "Answers by number": the state and
-//! its calls; 02 K1: runs of two of them, K2: its bits. Every call answers its number.
+//! its calls; 02 K1: runs of two of them, K2: its bits, K3: a line. Every call answers its number.
 
 use crate::answers::*;
 use crate::paint;
@@ -190,7 +190,8 @@ impl Display {
         if self.active.output_len() == 0 {
             return NOTHING_ACTIVE;
         }
-        paint::buffer_refusal(&self.active, self.tables(tables), pictures, out)
+        let right = self.active.output_len();
+        paint::buffer_refusal(&self.active, self.tables(tables), pictures, right, out)
     }
 
     /// "Painting the band a..b (depths from a up to but not b) blends the enabled layers of those
@@ -218,6 +219,29 @@ impl Display {
             paint::fill(&self.active, out);
             let tables = self.tables(tables);
             self.errors |= paint::band(&self.active, self.frame, 0, 8, tables, pictures, out);
+        }
+        answer
+    }
+
+    /// "Refusals in order: 12, 15 for a line number at or past the height, 13 against 4·width, 6,
+    /// 14."
+    fn line_refusal(&self, y: u32, tables: &[u8], pictures: &[u8], out: &[u8]) -> u32 {
+        if self.active.output_len() == 0 {
+            return NOTHING_ACTIVE;
+        }
+        if i64::from(y) >= self.active.height() {
+            return WRONG_BAND;
+        }
+        let right = self.active.line_len();
+        paint::buffer_refusal(&self.active, self.tables(tables), pictures, right, out)
+    }
+
+    /// Line y of the whole frame, in "one lent output line".
+    pub fn line(&mut self, y: u32, tables: &[u8], pictures: &[u8], out: &mut [u8]) -> u32 {
+        let answer = self.line_refusal(y, tables, pictures, out);
+        if answer == DONE {
+            let tables = self.tables(tables);
+            self.errors |= paint::line(&self.active, self.frame, y.into(), tables, pictures, out);
         }
         answer
     }

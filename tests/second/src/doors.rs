@@ -1,4 +1,4 @@
-//! The fifteen calls of the display from C, each on lent bytes, and rows of such calls: what the
+//! The sixteen calls of the display from C, each on lent bytes, and rows of such calls: what the
 //! owner of the buffers stores in them, what is lent to each call, and what a call tells.
 
 use crate::answers::WRONG_STATE;
@@ -16,6 +16,7 @@ pub enum Door {
     Fill,
     Paint,
     Frame,
+    Line,
     PutRun,
     WriteRun,
     ErrorWord,
@@ -43,7 +44,7 @@ pub fn places(buffer: usize) -> Vec<usize> {
 }
 
 impl Door {
-    pub const ALL: [Door; 15] = [
+    pub const ALL: [Door; 16] = [
         Door::New,
         Door::Write,
         Door::Select,
@@ -53,6 +54,7 @@ impl Door {
         Door::Fill,
         Door::Paint,
         Door::Frame,
+        Door::Line,
         Door::PutRun,
         Door::WriteRun,
         Door::ErrorWord,
@@ -69,9 +71,9 @@ impl Door {
     pub fn takes(self, buffer: usize) -> bool {
         match buffer {
             STATE => true,
-            TABLES => matches!(self, Door::Put | Door::PutRun | Door::Paint | Door::Frame),
-            PICTURES => matches!(self, Door::Paint | Door::Frame),
-            OUTPUT => matches!(self, Door::Fill | Door::Paint | Door::Frame),
+            TABLES => self.takes(PICTURES) || matches!(self, Door::Put | Door::PutRun),
+            PICTURES => matches!(self, Door::Paint | Door::Frame | Door::Line),
+            OUTPUT => self.takes(PICTURES) || self == Door::Fill,
             _ => matches!(self, Door::PutRun | Door::WriteRun),
         }
     }
@@ -94,9 +96,9 @@ pub struct LentBytes<'a> {
 }
 
 /// One call, with its one or two numbers: bits a glyph pixel, register and value, selection, bits
-/// to toggle, byte, or the ends of a band. "A state of another length: answer 23, everything
-/// unchanged; the reads give 0 then." A count is written by every call that is lent its place, with
-/// 23 as 0.
+/// to toggle, byte, the ends of a band, or a line. "A state of another length: answer 23,
+/// everything unchanged; the reads give 0 then." A count is written by every call that is lent its
+/// place, with 23 as 0.
 pub fn call(door: Door, a: u32, b: u32, lent: LentBytes) -> u32 {
     let LentBytes { state, tables, pictures, out, run, count } = lent;
     let Some(mut display) = read_state(state) else {
@@ -117,6 +119,7 @@ pub fn call(door: Door, a: u32, b: u32, lent: LentBytes) -> u32 {
         Door::Fill => display.fill(out),
         Door::Paint => display.paint(a, b, tables, pictures, out),
         Door::Frame => display.frame(tables, pictures, out),
+        Door::Line => display.line(a, tables, pictures, out),
         Door::PutRun => counted(display.put_run(tables, run), count),
         Door::WriteRun => counted(display.write_run(run), count),
         Door::ErrorWord => return display.errors(),
@@ -252,9 +255,17 @@ impl Stage {
         let count = &mut count[..lent[COUNT].length];
         let before = tables.to_vec();
         let answer = call(door, a, b, LentBytes { state, tables, pictures, out, run, count });
-        let changed = (0..tables.len()).filter(|&at| tables[at] != before[at]);
-        let changes = changed.map(|at| (at as u32, tables[at])).collect();
+        let changes = changes(&before, tables);
         let [state, out, count] = [&*state, &*out, &*count].map(<[u8]>::to_vec);
         Told { answer, is_touched: false, state, changes, out, count }
     }
+}
+
+/// Each byte that is another one now, with its place. Most calls leave all, which is soon seen.
+fn changes(before: &[u8], after: &[u8]) -> Vec<(u32, u8)> {
+    if before == after {
+        return Vec::new();
+    }
+    let changed = (0..after.len()).filter(|&at| after[at] != before[at]);
+    changed.map(|at| (at as u32, after[at])).collect()
 }

@@ -30,7 +30,7 @@ pub fn host_frame(image: &[u8], frame: u32, tables: &[u8], pictures: &[u8], out:
         return answer;
     }
     let tables = Tables::by_length(tables);
-    let answer = paint::buffer_refusal(&words, tables, pictures, out);
+    let answer = paint::buffer_refusal(&words, tables, pictures, words.output_len(), out);
     if answer == DONE {
         paint::fill(&words, out);
         paint::band(&words, frame, 0, 8, tables, pictures, out);

@@ -1,10 +1,12 @@
-//! 01 "Painting": fill, blend and bands over a lent output. A layer is painted where it lies on the
-//! screen, also in words that no start lets in. The state and most refusals are in `display`.
+//! 01 "Painting": fill, blend and bands over a lent output; 02 K3: one line of a frame. A layer is
+//! painted where it lies on the screen, also in words that no start lets in. The state and most
+//! refusals are in `display`.
 
 use crate::answers::*;
 use crate::draw::{Letters, List};
 use crate::tables::{Kind, Tables};
 use crate::words::{Words, LAYERS};
+use std::ops::Range;
 
 /// "Blend of one channel over what is under it (house): (a·over + (255−a)·under + 127) divided by
 /// 255, rounded down."
@@ -12,9 +14,15 @@ pub fn blend(a: u32, over: u32, under: u32) -> u32 {
     (a * over + (255 - a) * under + 127) / 255
 }
 
-/// The end of paint's order and of the host entry's: "13, 6, 14".
-pub fn buffer_refusal(words: &Words, tables: Tables, pictures: &[u8], out: &[u8]) -> u32 {
-    if out.len() as i64 != words.output_len() {
+/// The end of each order of painting: "13, 6, 14", where the output has to have so many bytes.
+pub fn buffer_refusal(
+    words: &Words,
+    tables: Tables,
+    pictures: &[u8],
+    output_len: i64,
+    out: &[u8],
+) -> u32 {
+    if out.len() as i64 != output_len {
         WRONG_OUTPUT
     } else if !tables.are_whole() {
         WRONG_TABLES
@@ -55,7 +63,7 @@ pub fn band(
             if !layer.enabled || layer.depth != depth {
                 continue;
             }
-            for pixel in shown(words, n, frame, tables, pictures) {
+            for pixel in shown(words, n, 0..words.height(), frame, tables, pictures) {
                 pixel.blend_into(out);
             }
             errors |= missing_end(words, n, tables);
@@ -64,10 +72,28 @@ pub fn band(
     errors
 }
 
+/// 02 K3: "one lent output line", whatever it held. "For every accepted setting and every line its
+/// bytes and error bits are those of the whole frame", so a list without END sets its bit also
+/// where its layer does not reach the line, and with the display off there is background alone.
+pub fn line(
+    words: &Words,
+    frame: u32,
+    y: i64,
+    tables: Tables,
+    pictures: &[u8],
+    out: &mut [u8],
+) -> u32 {
+    fill(words, out);
+    let layers = if words.display_on() { words.order() } else { Vec::new() };
+    let on_line = |&n: &usize| shown(words, n, y..y + 1, frame, tables, pictures);
+    layers.iter().flat_map(on_line).for_each(|pixel| pixel.blend_into(out));
+    layers.iter().fold(0, |errors, &n| errors | missing_end(words, n, tables))
+}
+
 /// What a layer shows at one pixel of the screen.
 #[derive(Clone, Copy, Debug, PartialEq, Eq)]
 pub struct Shown {
-    /// The place of the pixel's first byte in the output.
+    /// The place of the pixel's first byte in the lines that are asked for.
     pub at: usize,
     pub channels: [u8; 3],
     /// "a is the pixel's alpha, or, with global alpha set, the fade value."
@@ -84,10 +110,17 @@ impl Shown {
     }
 }
 
-/// What an enabled layer shows at each of its pixels that lies on the screen. A frame layer's
-/// picture is "in raster order"; for a graphics layer "the colour table gives channel 0, 1, 2,
-/// alpha for an index (000)". "u, v count from the layer's corner".
-pub fn shown(words: &Words, n: usize, frame: u32, tables: Tables, pictures: &[u8]) -> Vec<Shown> {
+/// What an enabled layer shows at each of its pixels that lies on those lines of the screen. A
+/// frame layer's picture is "in raster order"; for a graphics layer "the colour table gives channel
+/// 0, 1, 2, alpha for an index (000)". "u, v count from the layer's corner".
+pub fn shown(
+    words: &Words,
+    n: usize,
+    lines: Range<i64>,
+    frame: u32,
+    tables: Tables,
+    pictures: &[u8],
+) -> Vec<Shown> {
     let layer = words.layer(n);
     let list = List::read(tables.active(words, Kind::Instruction, n));
     let colours = tables.active(words, Kind::Colour, n);
@@ -106,14 +139,21 @@ pub fn shown(words: &Words, n: usize, frame: u32, tables: Tables, pictures: &[u8
         let over = over(u, v);
         let alpha = if layer.global_alpha { layer.fade.at(frame) } else { u32::from(over[3]) };
         Shown {
-            at: (4 * (words.width() * (layer.y + v) + layer.x + u)) as usize,
+            at: (4 * (words.width() * (layer.y + v - lines.start) + layer.x + u)) as usize,
             channels: [over[0], over[1], over[2]],
             alpha,
         }
     };
+    pixels(words, n, &lines).map(|(u, v)| pixel(u, v)).collect()
+}
+
+/// The pixels (u, v) of a layer that lie on those lines of the screen.
+pub fn pixels(words: &Words, n: usize, lines: &Range<i64>) -> impl Iterator<Item = (i64, i64)> {
+    let layer = words.layer(n);
     let columns = layer.width.min(words.width() - layer.x);
-    let rows = layer.height.min(words.height() - layer.y);
-    (0..rows).flat_map(|v| (0..columns).map(move |u| (u, v))).map(|(u, v)| pixel(u, v)).collect()
+    let [first, end] =
+        [lines.start.max(layer.y), lines.end.min(layer.y + layer.height)].map(|y| y - layer.y);
+    (first..end).flat_map(move |v| (0..columns).map(move |u| (u, v)))
 }
 
 /// "No END means that painting the layer sets error bit 4n (000)."

@@ -6,6 +6,7 @@ use crate::bench::print_bench;
 use crate::display::Display;
 use crate::sums::{blends, checksum, fades};
 use crate::tables::Bits;
+use std::ops::Range;
 
 /// A fresh display of a bits a glyph pixel, buffers of zeros, whole tables lent and nothing else.
 pub const NEW: u8 = b'N';
@@ -33,6 +34,8 @@ pub const FILL: u8 = b'F';
 /// Paint the band a..b.
 pub const BAND: u8 = b'B';
 pub const FRAME: u8 = b'R';
+/// Paint line a into the output from byte b on, as many bytes as are lent or what there is of them.
+pub const LINE: u8 = b'Y';
 /// Prints 32 bytes of the output from a on.
 pub const VIEW: u8 = b'V';
 const VIEW_LEN: usize = 32;
@@ -42,8 +45,8 @@ pub const BLENDS: u8 = b'M';
 pub const FADES: u8 = b'E';
 
 /// The records that call the display that there is.
-pub const CALLS: [u8; 10] =
-    [WRITE, SELECT, TOGGLE, START, PUT, PUT_RUN, WRITE_RUN, FILL, BAND, FRAME];
+pub const CALLS: [u8; 11] =
+    [WRITE, SELECT, TOGGLE, START, PUT, PUT_RUN, WRITE_RUN, FILL, BAND, FRAME, LINE];
 
 /// The buffers are longer than any right length, so that a call can be lent too much.
 const TABLES_ROOM: usize = Bits::Two.tables_len() + 16;
@@ -66,9 +69,15 @@ impl Call {
         &rest[..rest.len().min(self.b as usize)]
     }
 
+    /// Where the output is that it is lent, if so many bytes are.
+    pub fn lent_out(self, length: usize) -> Range<usize> {
+        let first = if self.letter == LINE { PIXELS_ROOM.min(self.b as usize) } else { 0 };
+        first..PIXELS_ROOM.min(first + length)
+    }
+
     /// Whether it writes to the output where it is not refused.
     pub fn paints(self) -> bool {
-        [FILL, BAND, FRAME].contains(&self.letter)
+        [FILL, BAND, FRAME, LINE].contains(&self.letter)
     }
 
     /// `W 00000001 00030004` and a line feed.
@@ -95,10 +104,10 @@ pub fn script_text(calls: &[Call]) -> Vec<u8> {
     calls.iter().flat_map(|call| call.text()).collect()
 }
 
-/// The records that print every byte of the output that is lent.
-pub fn views(stage: &Stage) -> Vec<Call> {
+/// The records that print every byte of the output that a call is lent.
+pub fn views(stage: &Stage, call: Call) -> Vec<Call> {
     let record = |at| Call { letter: VIEW, a: at as u32, b: 0 };
-    (0..stage.lent.out).step_by(VIEW_LEN).map(record).collect()
+    call.lent_out(stage.lent.out).step_by(VIEW_LEN).map(record).collect()
 }
 
 /// How many bytes of each buffer are lent.
@@ -164,7 +173,7 @@ impl Stage {
         let Stage { display, tables, pictures, out, lent } = self;
         let lent_tables = &mut tables[..lent.tables];
         let lent_pictures = &pictures[..lent.pictures];
-        let lent_out = &mut out[..lent.out];
+        let lent_out = &mut out[call.lent_out(lent.out)];
         match letter {
             WRITE => return display.write(a, b),
             SELECT => return display.select(a),
@@ -177,6 +186,7 @@ impl Stage {
             FILL => return display.fill(lent_out),
             BAND => return display.paint(a, b, lent_tables, lent_pictures, lent_out),
             FRAME => return display.frame(lent_tables, lent_pictures, lent_out),
+            LINE => return display.line(a, lent_tables, lent_pictures, lent_out),
             NEW => return self.make(a),
             LEND => self.lend(a, b as usize),
             FILL_TABLES => pattern(tables, a, b, false),

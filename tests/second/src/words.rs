@@ -58,6 +58,11 @@ impl Layer {
     pub fn picture_len(&self) -> i64 {
         4 * self.width * self.height
     }
+
+    /// Whether it lies on a line of the screen.
+    pub fn is_on(&self, y: i64) -> bool {
+        (self.y..self.y + self.height).contains(&y)
+    }
 }
 
 #[derive(Clone, Debug, PartialEq, Eq)]
@@ -160,6 +165,11 @@ impl Words {
     /// "output not 4·width·height bytes"
     pub fn output_len(&self) -> i64 {
         4 * self.width() * self.height()
+    }
+
+    /// Of one line: "4·width".
+    pub fn line_len(&self) -> i64 {
+        4 * self.width()
     }
 
     /// "Pictures: enabled frame layers in rising layer number, each 4·width·height bytes in raster

@@ -8,7 +8,7 @@
 //!   SPOONWING_SEED      compares the row of this one seed only, aloud
 
 use second::answers::*;
-use second::beside::{fewer, seed, seeds, with_fault, Calls, Doors};
+use second::beside::{compare, fewer, seed, seeds, shown, with_fault, Calls, Doors};
 use second::cases::{gen_host, gen_row, HostCase, ROWS};
 use second::doors::*;
 use second::host::{host_frame, image_words};
@@ -17,50 +17,8 @@ use second::tables::{Bits, Tables};
 use std::cell::RefCell;
 use std::collections::BTreeMap;
 
-/// Makes the calls of a row with both and answers their numbers, or says where they part.
-fn compare(calls: Calls, steps: &[Step]) -> Result<Vec<u32>, String> {
-    let mut stage = Stage::new();
-    let mut theirs = calls(steps).into_iter();
-    let mut answers = Vec::new();
-    for (i, step) in steps.iter().enumerate() {
-        let Some(ours) = stage.play(step) else { continue };
-        let place = format!("at step {} of {}, {}", i + 1, steps.len(), shown(step));
-        let theirs = theirs.next().ok_or(format!("{place}: the program ends"))?;
-        if let Some(told) = difference(&ours, &theirs) {
-            return Err(format!("{place}: {told}"));
-        }
-        answers.push(ours.answer);
-    }
-    Ok(answers)
-}
-
-fn difference(ours: &Told, theirs: &Told) -> Option<String> {
-    if theirs.answer != ours.answer {
-        return Some(format!("it answers {}, we answer {}", theirs.answer, ours.answer));
-    }
-    if theirs.is_touched {
-        return Some("an input, or a byte beside a buffer, is touched".into());
-    }
-    if theirs.changes != ours.changes {
-        let (theirs, ours) = (&theirs.changes, &ours.changes);
-        return Some(format!("of the tables it changes {theirs:?}, and we {ours:?}"));
-    }
-    for (name, ours_bytes, theirs_bytes) in [
-        ("state", &ours.state, &theirs.state),
-        ("output", &ours.out, &theirs.out),
-        ("count", &ours.count, &theirs.count),
-    ] {
-        let other = (0..ours_bytes.len()).find(|&at| ours_bytes[at] != theirs_bytes[at]);
-        if let Some(at) = other {
-            let (theirs, ours) = (theirs_bytes[at], ours_bytes[at]);
-            return Some(format!("byte {at} of the {name} is {theirs}, and {ours} with us"));
-        }
-    }
-    None
-}
-
 /// Compares a row; a difference is told with a smaller row that differs too.
-fn compare_row(calls: Calls, name: &str, steps: Vec<Step>) -> Result<Vec<u32>, String> {
+fn compare_row(calls: Calls, name: &str, steps: Vec<Step>) -> Result<Vec<Told>, String> {
     compare(calls, &steps).map_err(|told| {
         let small = smaller(steps, &|steps| compare(calls, steps).is_err());
         let still = compare(calls, &small).expect_err("it differs");
@@ -103,24 +61,6 @@ fn zero_runs(steps: &mut Vec<Step>, i: usize, run: usize, differs: &dyn Fn(&[Ste
     }
 }
 
-/// A call with its numbers and what it is lent, or the words that are stored and not 0.
-fn shown(step: &Step) -> String {
-    match step {
-        Step::Call { door, a, b, lent, null } => {
-            let lent = lent.map(|lent| format!("{}+{}", lent.length, lent.past)).join(" ");
-            let empty = if *null { ", NULL for none" } else { "" };
-            format!("{door:?} {a:#x} {b:#x}, lent {lent}{empty}")
-        }
-        Step::Store { buffer, bytes } => {
-            let word = |chunk: &[u8]| chunk.iter().rev().fold(0, |n, &b| n << 8 | u32::from(b));
-            let words = bytes.chunks(4).map(word).enumerate().filter(|&(_, word)| word != 0);
-            let words: String = words.map(|(i, word)| format!(" {}: {word:08X}", 4 * i)).collect();
-            let name = ["state", "tables", "pictures", "output", "run", "count"][*buffer];
-            format!("{name} of {} bytes:{words}", bytes.len())
-        }
-    }
-}
-
 #[test]
 fn the_calls_answer_the_generated_rows() {
     let doors = RefCell::new(Doors::start());
@@ -131,18 +71,18 @@ fn the_calls_answer_the_generated_rows() {
     for seed in seeds("SPOONWING_ROWS", 1, ROWS) {
         let calls = |steps: &[Step]| doors.borrow_mut().row(steps);
         match compare_row(&calls, &format!("seed {seed}"), gen_row(seed)) {
-            Ok(answers) => *counts.entry(answers.len() / 20 * 20).or_insert(0) += 1,
+            Ok(told) => *counts.entry(told.len() / 20 * 20).or_insert(0) += 1,
             Err(told) => panic!("{told}"),
         }
     }
     println!("rows by their calls, from so many on: {counts:?}");
 }
 
-/// A screen of one pixel, shown, with a bank selected that can be put to; and a run of bytes that
-/// are two writes. Selected and profile are not as a call writes them.
-fn one_pixel(bits: Bits) -> [Step; 2] {
+/// A screen of one column and three lines, shown, with a bank selected that can be put to; and a
+/// run of bytes that are two writes. Selected and profile are not as a call writes them.
+fn one_column(bits: Bits) -> [Step; 2] {
     let mut state = vec![0; STATE_LEN];
-    for (register, word) in [(0, 0b101_u32), (1, 0x0001_0001)] {
+    for (register, word) in [(0, 0b101_u32), (1, 0x0003_0001)] {
         for at in [PENDING_AT, ACTIVE_AT] {
             state[at + 4 * register..][..4].copy_from_slice(&word.to_le_bytes());
         }
@@ -156,7 +96,8 @@ fn one_pixel(bits: Bits) -> [Step; 2] {
 
 /// What a call on that state needs.
 fn lent_to(door: Door, bits: Bits) -> [Lent; BUFFERS] {
-    door.lent([STATE_LEN, bits.tables_len(), 0, 4, 10, COUNT_LEN])
+    let out = if door == Door::Line { 4 } else { 12 };
+    door.lent([STATE_LEN, bits.tables_len(), 0, out, 10, COUNT_LEN])
 }
 
 /// Every call on a state of either number of bits.
@@ -178,18 +119,18 @@ fn the_calls_take_null_for_no_bytes() {
         for buffer in (0..COUNT).filter(|buffer| emptied >> buffer & 1 == 1) {
             lent[buffer].length = 0;
         }
-        let mut steps = one_pixel(bits).to_vec();
+        let mut steps = one_column(bits).to_vec();
         steps.push(Step::Call { door, a: 2, b: 8, lent, null: true });
-        let answers = compare_row(&calls, &format!("with NULL for {emptied:05b}"), steps);
-        let answers = answers.unwrap_or_else(|told| panic!("{told}"));
+        let told = compare_row(&calls, &format!("with NULL for {emptied:05b}"), steps);
+        let told = told.unwrap_or_else(|told| panic!("{told}"));
         if !door.is_read() {
-            *counts.entry(answers[0]).or_insert(0) += 1;
+            *counts.entry(told[0].answer).or_insert(0) += 1;
         }
     }
-    // For either number of bits half of the 11 times 32 have no state. Of the other half, no output
-    // is refused in 8 fills of 16 and in 8 paintings of each kind, then no tables in 4 of each
-    // kind, in 8 puts and in the 4 of 8 runs of puts that have bytes.
-    let expected = [(DONE, 264), (WRONG_TABLES, 40), (WRONG_OUTPUT, 48), (WRONG_STATE, 352)];
+    // For either number of bits half of the 12 times 32 have no state. Of the other half, no output
+    // is refused in 8 fills of 16 and in 8 paintings of each of three kinds, then no tables in 4 of
+    // each kind, in 8 puts and in the 4 of 8 runs of puts that have bytes.
+    let expected = [(DONE, 272), (WRONG_TABLES, 48), (WRONG_OUTPUT, 64), (WRONG_STATE, 384)];
     assert_eq!(counts, BTreeMap::from(expected));
 }
 
@@ -204,12 +145,11 @@ fn the_calls_take_every_alignment() {
         for (buffer, past) in (0..BUFFERS).flat_map(ways) {
             let mut lent = lent_to(door, bits);
             lent[buffer].past = past;
-            steps.extend(one_pixel(bits));
+            steps.extend(one_column(bits));
             steps.push(Step::Call { door, a: 2, b: 5, lent, null: false });
         }
-        let answers = compare_row(&calls, "alignments", steps);
-        let answers = answers.unwrap_or_else(|told| panic!("{told}"));
-        assert!(door.is_read() || answers.iter().all(|&answer| answer == DONE), "{door:?}");
+        let all = compare_row(&calls, "alignments", steps).unwrap_or_else(|told| panic!("{told}"));
+        assert!(door.is_read() || all.iter().all(|told| told.answer == DONE), "{door:?}");
     }
 }
 

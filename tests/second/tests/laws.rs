@@ -1,12 +1,12 @@
-//! Laws that follow from document 01, tried on all blends, on the fades' edges and on scripts of
-//! calls.
+//! Laws that follow from documents 01 and 02, tried on all blends, on the fades' edges and on
+//! scripts of calls.
 
 use second::answers::*;
 use second::cases::gen_calls;
 use second::display::Display;
 use second::fade::Fade;
 use second::paint::blend;
-use second::script::{Call, Stage, BAND, CALLS, FILL, FRAME, PUT, PUT_RUN, WRITE_RUN};
+use second::script::{Call, Stage, BAND, CALLS, FILL, FRAME, LINE, PUT, PUT_RUN, WRITE_RUN};
 use second::tables::Bits;
 
 const SCRIPTS: u64 = 30;
@@ -155,11 +155,12 @@ fn calls_touch_their_own_bytes() {
             before.tables.iter().zip(&after.tables).filter(|(old, new)| old != new).count();
         assert!(stored <= usize::from(call.letter == PUT), "{call:?}");
         let alphas = |stage: &Stage| stage.out.chunks(4).map(|pixel| pixel[3]).collect::<Vec<u8>>();
-        let lent = before.lent.out;
+        let lent = call.lent_out(before.lent.out);
         match call.letter {
-            FILL | FRAME if answer == DONE => {
-                assert!(alphas(after)[..lent / 4].iter().all(|&a| a == 255));
-                assert_eq!(after.out[lent..], before.out[lent..]);
+            FILL | FRAME | LINE if answer == DONE => {
+                assert!(after.out[lent.clone()].chunks(4).all(|pixel| pixel[3] == 255));
+                assert_eq!(after.out[..lent.start], before.out[..lent.start]);
+                assert_eq!(after.out[lent.end..], before.out[lent.end..]);
             }
             BAND => assert_eq!(alphas(after), alphas(before)),
             _ => assert_eq!(after.out, before.out),
@@ -184,6 +185,26 @@ fn a_frame_is_a_fill_and_bands() {
             assert!(parts == *after, "split at {middle}");
         }
     });
+}
+
+/// "For every accepted setting and every line its bytes and error bits are those of the whole
+/// frame."
+#[test]
+fn a_line_is_a_line_of_the_frame() {
+    let mut lines = 0;
+    each_call(|before, call, answer, after| {
+        if call.letter != LINE || answer != DONE {
+            return;
+        }
+        let mut frame = before.clone();
+        frame.lent.out = before.display.active().output_len() as usize;
+        assert_eq!(frame.play(Call { letter: FRAME, a: 0, b: 0 }), (DONE, 0));
+        let line = &after.out[call.lent_out(before.lent.out)];
+        assert_eq!(line, &frame.out[line.len() * call.a as usize..][..line.len()], "{call:?}");
+        assert!(after.display == frame.display, "{call:?}");
+        lines += 1;
+    });
+    assert!(lines > 500, "only {lines} lines are painted");
 }
 
 /// "With the display off a band changes nothing, the state included".

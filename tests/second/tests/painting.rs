@@ -182,13 +182,14 @@ fn split_of(seed: u64) -> Split {
     for &call in &calls {
         stage.play(call);
     }
-    let seen = views(&stage);
-    let after = [record(PUT, 0x5A, 0), record(START, 0, 0), record(FRAME, 0, 0)];
+    let frame = record(FRAME, 0, 0);
+    let seen = views(&stage, frame);
+    let after = [record(PUT, 0x5A, 0), record(START, 0, 0), frame];
     let way = |painting: &[Call]| [&calls[..], painting, &seen, &after, &seen].concat();
     Split {
         depth,
         stage,
-        whole: way(&[record(FRAME, 0, 0)]),
+        whole: way(&[frame]),
         parts: way(&[record(FILL, 0, 0), record(BAND, 0, depth), record(BAND, depth, 8)]),
         same: 1 + 2 * seen.len() + after.len(),
     }

@@ -1,13 +1,10 @@
--- `paint::checked_band` meets its contract: each `return` is a case of the refusal, and what passes it is of the
--- right lengths. Assumes nothing.
+-- `paint::checked_band` meets its contract: it is the part of all lines, refused as a band is. Assumes nothing.
 use borrow.Author.Needs.{needs}
-use mathlib.Core.Path.{_≡_, sym, _∙_}
-use lib.ListN.{length}
+use mathlib.Core.Path.{_≡_, ap, _∙_}
 use denote.Ref.{now}
-use Rattle.profiles.specs.Profile.{bitsOf}
-use Rattle.frames.specs.Frame.{paintRefusal}
-use Rattle.frames.proofs.CallerLaws.{paint-fits}
-use Rattle.paint.proofs.FrameLaws.{fits-lent, paint-refused, paint-done}
+use Rattle.frames.specs.Scene.{Scene, sceneOf}
+use Rattle.frames.specs.Frame.{refusalOf}
+use Rattle.paint.proofs.PartLaws.{whole-asked, whole-told, whole-output}
 use Rattle.paint.proofs.checked_band.Statement.{statement}
 use Rattle.paint.proofs.checked_band.Tie as tie
 
@@ -17,37 +14,50 @@ bits-of-requires c κs = search needs
 paint-refusal-requires : tie.Need-paint-refusal-requires
 paint-refusal-requires c κs = search needs
 
--- what is refused, with the profile's bits
+screen-height-requires : tie.Need-screen-height-requires
+screen-height-requires c κs = search needs
+
+cast-t18 : tie.Need-cast-t18
+cast-t18 c = search needs
+
+-- ---- what is refused, with the profile's bits
+
+abbrev start : tie.After-paint-refusal → tie.Start
+start c = c .before .before .before .before .before
+
+abbrev scene : tie.After-paint-refusal → Scene
+scene c =
+    let a = start c .args in sceneOf (a .profile) (now (a .w)) (a .frame) (now (a .tables)) (now (a .pictures))
+
 refused : (c : tie.After-paint-refusal)
-    → c .paint-refusal .result
-    ≡ paintRefusal (bitsOf (c .before .before .before .before .before .args .profile))
-    (now (c .before .before .before .before .before .args .w)) (c .before .before .before .before .before .args .low)
-    (c .before .before .before .before .before .args .high)
-    (length (now (c .before .before .before .before .before .args .out)))
-    (length (now (c .before .before .before .before .before .args .tables)))
-    (length (now (c .before .before .before .before .before .args .pictures)))
+    → c .paint-refusal .result ≡ refusalOf (scene c) (start c .args .low) (start c .args .high) (now (start c .args .out))
 refused c = rw (c .before .bits-of .ensures .0) at (c .paint-refusal .ensures)
+
+paint-unless-requires : tie.Need-paint-unless-requires
+paint-unless-requires c κs =
+    let r = c .before .before in
+    rw (c .before .screen-height .ensures)
+    (whole-asked (scene r) _ _ (start r .args .fresh) _ _ (start r .args .errors) (refused r))
+
+same-length : tie.Need-same-length
+same-length c = search needs
 
 returns : tie.Need-returns
 returns c =
-    let r = c .before in
-    paint-refused _ _ _ (r .before .before .before .before .before .args .fresh) _ _ _ (refused r) (c .if1 .taken)
-
-paint-band-requires : tie.Need-paint-band-requires
-paint-band-requires c κs =
-    let f = paint-fits _ _ _ _ _ _ _ (sym (refused (c .before .before)) ∙ c .before .if1 .left) in
-    (fits-lent _ _ _ _ f, f .long, f .wide, f .low, f .high)
-
-same-length : tie.Need-same-length
-same-length c = c .before .before .paint-band .kept .1 .1 .1 .1 .1 .1 .1 .1 .1 .0
-
-returns-2 : tie.Need-returns-2
-returns-2 c =
     let r = c .before .before .before .before .before in
-    paint-done _ _ _ (r .before .before .before .before .before .args .fresh) _ _ _ (refused r) _ _
-    (c .before .before .before .before .if1 .left) (c .before .before .paint-band .ensures .0)
-    (c .before .before .paint-band .ensures .1)
+    let p = rw (c .before .before .before .before .screen-height .ensures) at (c .before .before .paint-unless .ensures) in (
+      p .0 ∙ whole-told (scene r) _ _ (start r .args .fresh) (now (start r .args .out)) _ _ (refused r),
+      p .1 ∙ whole-output (scene r) _ _ _ _ _ (start r .args .errors) (refused r),
+    )
 
 pub checked-band-spec : {M : Type 1} → statement M
 checked-band-spec =
-    tie.close (tie.spec bits-of-requires paint-refusal-requires returns paint-band-requires same-length returns-2)
+    tie.close
+    (tie.spec
+    bits-of-requires
+    paint-refusal-requires
+    screen-height-requires
+    cast-t18
+    paint-unless-requires
+    same-length
+    returns)

@@ -1,21 +1,23 @@
--- What the workers of `src/rows.rt` do, on the way to `Rattle.frames.specs.Band`: said, as a line's workers have
+-- What the workers of `src/` do, on the way to `Rattle.frames.specs.Frame`: said, as a line's workers have
 -- it, of every scene that lends their buffers. No definition of the document rests on these. Assumes nothing.
-use Prim.Native.Nat.{ℕ, _*_, _/_}
+use Prim.Native.Nat.{ℕ, _+_, _*_, _/_, _<_, _≤_}
 use mathlib.Core.Path.{_≡_}
 use mathlib.Core.Bool.{Bool}
 use mathlib.Core.List.{List}
 use lib.Dec.{ltb}
+use lib.ListN.{length}
 use Rattle.lists.specs.Choice.{pick}
 use Rattle.lists.specs.Tab.{each}
-use Rattle.mix.specs.Pixel.{pixelLen}
 use Rattle.words.specs.declared.fields.Ground.{Ground}
-use Rattle.words.specs.Fields.{widthOf, groundsOf}
+use Rattle.words.specs.Fields.{shownOf, widthOf, groundsOf}
 use Rattle.frames.specs.Scene.{Scene}
 use Rattle.frames.specs.Band.{bandByte}
 use Rattle.frames.specs.Frame.{fillByte}
+use Rattle.frames.specs.Line.{lineLen}
+use Rattle.plan.specs.declared.Part.{Part}
 use Rattle.plan.specs.declared.Plan.{Plan}
-use Rattle.plan.specs.Engine.Plan.{OfBand}
-use Rattle.scanline.specs.Engine.Lines.{bandLine, Lends, OfLine}
+use Rattle.plan.specs.Engine.Plan.{OfPart}
+use Rattle.scanline.specs.Engine.Lines.{Lent, bandLine, Lends, OfLine}
 
 -- the most pixels of a line, whose width is a field of 12 bits
 abbrev pub mostPixels : ℕ
@@ -23,17 +25,34 @@ mostPixels = 4096
 
 -- ---- bytes
 
--- byte i of the output: the band over what was there, or over the background where the frame is a fresh one
-unfoldable pub laidByte : Scene → ℕ → ℕ → Bool → ℕ → ℕ → ℕ
-laidByte s a b fresh i p = bandByte s a b i (pick fresh (fillByte (s .words) i) p)
+-- byte i of an output that has the part's lines: the part's band over what was there, or over the background where
+-- the frame is a fresh one
+unfoldable pub laidByte : Scene → Part → Bool → ℕ → ℕ → ℕ
+laidByte s part fresh i p =
+    bandByte s (part .low) (part .high) (part .first * lineLen (s .words) + i) (pick fresh (fillByte (s .words) i) p)
 
 -- the same of line y
-unfoldable pub laidLine : Scene → ℕ → ℕ → Bool → ℕ → ℕ → ℕ → ℕ
-laidLine s a b fresh y i p = bandLine s a b y i (pick fresh (fillByte (s .words) i) p)
+unfoldable pub laidLine : Scene → Part → Bool → ℕ → ℕ → ℕ → ℕ
+laidLine s part fresh y i p = bandLine s (part .low) (part .high) y i (pick fresh (fillByte (s .words) i) p)
 
--- and of the output after its first k lines, of W pixels each
-unfoldable pub rowsByte : Scene → ℕ → ℕ → Bool → ℕ → ℕ → ℕ → ℕ
-rowsByte s a b fresh k i p = pick (ltb (i / (pixelLen * widthOf (s .words))) k) (laidByte s a b fresh i p) p
+-- and of the output after its first k lines
+unfoldable pub rowsByte : Scene → Part → Bool → ℕ → ℕ → ℕ → ℕ
+rowsByte s part fresh k i p = pick (ltb (i / lineLen (s .words)) k) (laidByte s part fresh i p) p
+
+-- byte i of it, whether the display is on or off
+unfoldable pub partByte : Scene → Part → Bool → ℕ → ℕ → ℕ
+partByte s part fresh i p =
+    pick (shownOf (s .words)) (laidByte s part fresh i p) (pick fresh (fillByte (s .words) i) p)
+
+-- ---- what a worker asks
+
+-- buffers of the right lengths: the output has the part's lines, which have pixels
+pub record PartFits (s : Scene) (part : Part) (out : List ℕ) : Type 0 where
+  pub lent : Lent s
+  pub long : length out ≡ part .count * lineLen (s .words)
+  pub wide : 0 < widthOf (s .words)
+  pub low : part .low ≤ part .high
+  pub high : part .high ≤ 8
 
 -- ---- what a worker does, in every such scene
 
@@ -41,12 +60,17 @@ rowsByte s a b fresh k i p = pick (ltb (i / (pixelLen * widthOf (s .words))) k) 
 abbrev pub Holds : List ℕ → List ℕ → List ℕ → Scene → Type 0
 Holds w tables pictures s = (s .words ≡ w) × Lends tables pictures s
 
--- line y afterwards has its ground, and over that the plan's band
+-- line y is one of the part's
+pub record OnLines (part : Part) (y : ℕ) : Type 0 where
+  pub from : part .first ≤ y
+  pub to : y < part .first + part .count
+
+-- line y afterwards has its ground, and over that the plan's part
 pub record LineLaid (Of : Scene → Type 0) (p : Plan) (fresh : Bool) (g : Ground) (y : ℕ)
     (line line′ : List ℕ) : Type 0 where
-  pub laid : (s : Scene) (a b : ℕ) → Of s → OfLine s line → g ≡ groundsOf (s .words) → OfBand s a b p
-      → line′ ≡ each (laidLine s a b fresh y) line
+  pub laid : (s : Scene) (part : Part) → Of s → OfLine s line → g ≡ groundsOf (s .words) → OfPart s part p → OnLines part y
+      → line′ ≡ each (laidLine s part fresh y) line
 
 -- the whole output has
-pub record RowsLaid (Of : Scene → Type 0) (p : Plan) (fresh : Bool) (out out′ : List ℕ) : Type 0 where
-  pub laid : (s : Scene) (a b : ℕ) → Of s → OfBand s a b p → out′ ≡ each (laidByte s a b fresh) out
+pub record RowsLaid (Of : Scene → Type 0) (p : Plan) (part : Part) (fresh : Bool) (out out′ : List ℕ) : Type 0 where
+  pub laid : (s : Scene) → Of s → OfPart s part p → out′ ≡ each (laidByte s part fresh) out

@@ -1,11 +1,10 @@
--- `plan::plan_of` meets its contract: the invariant is that the band's layers among the first i
--- of the order are planned; the measure is what is left. Assumes nothing.
+-- `plan::plan_of` meets its contract: the invariant is that the part's layers among the first i
+-- of the order are planned, and their bits set; the measure is what is left. Assumes nothing.
 use borrow.Author.Needs.{needs}
 use mathlib.Core.Path.{_≡_, ap, _∙_}
 use Prim.Native.Nat.{_≤_, _-_}
 use native.Mathlib.Omega.{arith}
-use Rattle.plan.specs.Engine.Plan.{Planned}
-use Rattle.plan.proofs.PlanLaws.{bandTo, plan-none, plan-next, plan-all, plan-room}
+use Rattle.plan.proofs.PlanLaws.{PlannedTo, plan-none, plan-next, plan-all, plan-room}
 use Prim.Native.Nat.{_<_}
 use lib.ListN.{length, getD}
 use denote.Ref.{now}
@@ -18,11 +17,11 @@ use Rattle.plan.proofs.plan_of.Statement.{statement}
 use Rattle.plan.proofs.plan_of.Tie as tie
 
 abbrev Inv-loop : tie.InvT-loop
-Inv-loop bits w frame tables low high starts layers count plan₀ i₀ plan i =
-    (i ≤ count) × Planned bits w frame tables (bandTo bits w frame tables low high i) plan
+Inv-loop bits w frame errors tables part starts layers count plan₀ i₀ plan i =
+    (i ≤ count) × PlannedTo bits w frame tables part errors i plan
 
 abbrev μ-loop : tie.MeasureT-loop
-μ-loop bits w frame tables low high starts layers count plan₀ i₀ plan i = count - i
+μ-loop bits w frame errors tables part starts layers count plan₀ i₀ plan i = count - i
 
 order-of-requires : tie.Need-order-of-requires Inv-loop μ-loop
 order-of-requires c κs = search needs

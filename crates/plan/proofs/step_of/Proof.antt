@@ -53,18 +53,14 @@ active-at-requires-3 c κs = search needs
 active-at-requires-4 : tie.Need-active-at-requires-4
 active-at-requires-4 c κs = search needs
 
-end-at-requires : tie.Need-end-at-requires
-unfolding kindLen
-end-at-requires c κs = omega (arith, c .before .before .before .active-at .ensures .1)
-
 palette-at-requires : tie.Need-palette-at-requires
 unfolding kindLen
-palette-at-requires c κs = omega (arith, c .before .before .before .active-at2 .ensures .1)
+palette-at-requires c κs = omega (arith, c .before .before .active-at2 .ensures .1)
 
 returns : tie.Need-returns
 unfolding kindLen bankBytes
 returns c =
-    let least = c .before .before .before .before .before .before .before .before .before in
+    let least = c .before .before .before .before .before .before .before .before in
     let w = least .before .before .screen-width .ensures in
     let l = least .before .before .before .layer-of .ensures in
     record {
@@ -72,15 +68,15 @@ returns c =
       layer = l;
       left = rw (l, w) at (least .least .ensures);
       wide = rw (least .least .ensures, l, w)
-          at (c .before .before .before .before .before .before .before .least2 .ensures);
-      alpha = rw l at (c .before .before .before .before .before .before .fade .ensures);
+          at (c .before .before .before .before .before .before .least2 .ensures);
+      alpha = rw l at (c .before .before .before .before .before .fade .ensures);
       start = least .before .before .before .before .before .pre .3;
       glyph = refl;
-      list = c .before .before .before .before .before .active-at .ensures .0;
-      strings = c .before .before .before .active-at3 .ensures .0;
-      font = c .before .before .active-at4 .ensures .0;
-      end = rw (c .before .before .before .before .before .active-at .ensures .0) at (c .before .end-at .ensures);
-      palette = rw (c .before .before .before .before .active-at2 .ensures .0) at (c .palette-at .ensures);
+      list = c .before .before .before .before .active-at .ensures .0;
+      strings = c .before .before .active-at3 .ensures .0;
+      font = c .before .active-at4 .ensures .0;
+      end = least .before .before .before .before .before .pre .4;
+      palette = rw (c .before .before .before .active-at2 .ensures .0) at (c .palette-at .ensures);
     }
 
 pub step-of-spec : {M : Type 1} → statement M
@@ -102,6 +98,5 @@ step-of-spec =
     active-at-requires-2
     active-at-requires-3
     active-at-requires-4
-    end-at-requires
     palette-at-requires
     returns)

@@ -3,7 +3,7 @@
 -- buffers and whose layer the step is. No definition of the document rests on these. Assumes nothing.
 use Prim.Native.Nat.{ℕ, _+_, _-_, _*_, _/_, _%_, _<_, _≤_}
 use mathlib.Core.Path.{_≡_}
-use mathlib.Core.Bool.{Bool, false, not}
+use mathlib.Core.Bool.{Bool, true, false, not}
 use mathlib.Core.List.{List}
 use lib.ListN.{length, getD, take, drop}
 use lib.Dec.{eqb}
@@ -55,13 +55,14 @@ pub record Pictured (pictures : List ℕ) (t : Step) : Type 0 where
 -- a step that fits a line of so many bytes
 pub record Fit (tables pictures : List ℕ) (bytes : ℕ) (t : Step) : Type 0 where
   pub on : OnLine t bytes
-  pub banked : Banked tables t
+  pub banked : t .layer .graphics ≡ true → Banked tables t
   pub pictured : Pictured pictures t
 
--- a plan of such steps
+-- a plan of such steps, which is a drawn one where one of them is a graphics layer
 pub record AllFit (tables pictures : List ℕ) (bytes : ℕ) (p : Plan) : Type 0 where
   pub few : p .count ≤ 8
   pub fit : (j : ℕ) → j < p .count → Fit tables pictures bytes (getD (p .steps) j blankStep)
+  pub drawn : (j : ℕ) → j < p .count → getD (p .steps) j blankStep .layer .graphics ≡ true → p .drawn ≡ true
 
 -- room for the colour indexes of a line of so many bytes, and for its pixels
 pub record Scratch (bytes : ℕ) (indexes row : List ℕ) : Type 0 where

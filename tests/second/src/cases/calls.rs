@@ -2,7 +2,7 @@
 
 use crate::answers::DONE;
 use crate::cases::scene::{controller, nudge, scene, spoil, Room};
-use crate::cases::{banks, letter_script, runs};
+use crate::cases::{banks, letter_script, lines, runs};
 use crate::display::{Display, ITEM_LEN};
 use crate::rng::Rng;
 use crate::script::*;
@@ -22,8 +22,8 @@ pub const RECORDS_A_SCRIPT: usize = 1_000;
 pub const EDGES: u64 = 12;
 
 /// The first seed with which the gate's script has calls of every kind.
-const GATE_SEED: u64 = 76;
-const GATE_RECORDS: usize = 1_500;
+const GATE_SEED: u64 = 213;
+const GATE_RECORDS: usize = 2_000;
 
 /// A script of n records. It is made up of short runs, each going on from what the calls before it
 /// left.
@@ -36,15 +36,16 @@ pub fn gen_calls(seed: u64, n: usize) -> Vec<Call> {
     }
     while author.calls.len() < n {
         let nothing_active = author.stage.display.active().output_len() == 0;
-        match author.rng.below(70) {
+        match author.rng.below(80) {
             _ if nothing_active && author.rng.percent(50) => author.set_up(),
-            0 | 1 => author.begin_anew(),
-            2 => author.unknown(),
-            3..=17 => author.load(),
-            18..=32 => author.set_up(),
-            33..=36 => author.toggle(),
-            37 => author.lend_the_others(),
-            38..=44 => author.paint_text(),
+            0..=2 => author.begin_anew(),
+            3 => author.unknown(),
+            4..=18 => author.load(),
+            19..=33 => author.set_up(),
+            34..=37 => author.toggle(),
+            38 => author.lend_the_others(),
+            39..=45 => author.paint_text(),
+            46..=53 => author.paint_lines(),
             _ => author.paint(),
         }
     }
@@ -157,7 +158,9 @@ impl Author {
         self.lend_all();
         let other = self.stage.display.bits().other();
         self.call(LEND, 0, other.tables_len() as u32);
-        for (letter, a, b) in [(PUT, 1, 0), (PUT_RUN, 0, 4), (BAND, 0, 8), (FRAME, 0, 0)] {
+        let line = self.stage.display.active().line_len() as u32;
+        let paintings = [(BAND, 0, 8), (FRAME, 0, 0), (LEND, 2, line), (LINE, 0, 0)];
+        for (letter, a, b) in [(PUT, 1, 0), (PUT_RUN, 0, 4)].into_iter().chain(paintings) {
             self.call(letter, a, b);
         }
     }
@@ -423,12 +426,7 @@ impl Author {
 
     /// A whole frame, or a fill and bands over it, or bands over whatever the output holds.
     fn paint(&mut self) {
-        if self.rng.percent(40) {
-            self.fill_buffer(FILL_PICTURES);
-        }
-        if self.rng.percent(30) {
-            self.fill_buffer(FILL_OUT);
-        }
+        self.fill_pixels();
         self.lend_all();
         if self.rng.percent(40) {
             self.call(FRAME, 0, 0);
@@ -438,6 +436,16 @@ impl Author {
         if self.rng.percent(10) {
             let place = self.rng.below(64) as u32;
             self.call(VIEW, 4 * place, 0);
+        }
+    }
+
+    /// At times other pictures, and other bytes in the output.
+    fn fill_pixels(&mut self) {
+        if self.rng.percent(40) {
+            self.fill_buffer(FILL_PICTURES);
+        }
+        if self.rng.percent(30) {
+            self.fill_buffer(FILL_OUT);
         }
     }
 
@@ -452,12 +460,37 @@ impl Author {
         }
     }
 
-    fn lend_all(&mut self) {
+    /// Lines one after another, as a rule each into its place in the frame; at times as much is
+    /// lent as a frame needs, and at times no error bit is set before, so that lines set them.
+    fn paint_lines(&mut self) {
+        self.fill_pixels();
+        if self.rng.percent(40) {
+            let errors = self.stage.display.errors();
+            self.call(TOGGLE, errors, 0);
+        }
         let active = self.stage.display.active();
-        let (pictures, out) = (active.pictures_len() as usize, active.output_len() as usize);
+        let (height, line, frame) = (active.height(), active.line_len(), active.output_len());
+        for _ in 0..self.rng.range(1, 6) {
+            let out = if self.rng.percent(5) { frame } else { line };
+            self.lend_for(out);
+            let y = lines::line_number(&mut self.rng, height);
+            let place = y.saturating_mul(line as u32);
+            let any = self.rng.below(self.stage.out.len() + 1) as u32;
+            let place = self.rng.pick(&[place, place, place, place, any]);
+            self.call(LINE, y, place);
+        }
+    }
+
+    fn lend_all(&mut self) {
+        self.lend_for(self.stage.display.active().output_len());
+    }
+
+    /// Lends each buffer, so many bytes of the output being right.
+    fn lend_for(&mut self, out: i64) {
+        let pictures = self.stage.display.active().pictures_len();
         self.lend_tables(3);
-        self.lend(1, pictures, 3);
-        self.lend(2, out, 3);
+        self.lend(1, pictures as usize, 3);
+        self.lend(2, out as usize, 3);
     }
 }
 

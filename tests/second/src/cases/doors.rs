@@ -3,12 +3,12 @@
 use crate::answers::DONE;
 use crate::cases::calls::{new_bits, odd_band, wish};
 use crate::cases::scene::{controller, pictures, spoil};
-use crate::cases::{banks, damage, hosts, runs};
+use crate::cases::{banks, damage, hosts, lines, runs};
 use crate::display::Display;
 use crate::doors::*;
 use crate::rng::Rng;
 use crate::state::{read_state, PLACE_AT, PROFILE_AT, SELECTED_AT, SELECTION_AT, STATE_LEN};
-use crate::tables::{Bank, Bits, Kind};
+use crate::tables::{Bank, Kind};
 use crate::words::WORDS;
 
 /// The rows that the tests compare unless told otherwise, of the seeds from 0 on.
@@ -19,19 +19,20 @@ pub const ROWS: u64 = 500;
 pub fn gen_row(seed: u64) -> Vec<Step> {
     // Kept apart from the other cases' seeds.
     let mut author = Author::new(seed ^ 0x646F_6F72);
-    let most = if author.rng.percent(40) { author.rng.range(1, 8) } else { 120 };
+    let most = if author.rng.percent(40) { author.rng.range(1, 8) } else { 130 };
     author.begin();
     while author.calls < most {
-        match author.rng.below(45) {
+        match author.rng.below(50) {
             0..=6 => author.set_up(),
-            7..=13 => author.load(),
-            14..=29 => author.paint(),
-            30 | 31 => author.toggle(),
-            32..=34 => author.read(),
-            35..=37 => author.damage(),
-            38 => author.make(),
-            39 | 40 => author.run_any_puts(),
-            41 | 42 => author.run_writes(),
+            7..=14 => author.load(),
+            15..=30 => author.paint(),
+            31..=34 => author.paint_lines(),
+            35 | 36 => author.toggle(),
+            37..=39 => author.read(),
+            40..=42 => author.damage(),
+            43 => author.make(),
+            44 | 45 => author.run_any_puts(),
+            46 | 47 => author.run_writes(),
             _ => author.lend_wrong_state(),
         }
     }
@@ -65,38 +66,69 @@ impl Author {
         self.steps.push(step);
     }
 
-    /// A call that is lent what it needs, or now and then another length near that.
+    /// A call, now and then on the same state by other bytes.
     fn call(&mut self, door: Door, a: u32, b: u32) -> u32 {
         if door != Door::Write && self.rng.percent(10) {
             self.spell_anew();
         }
-        self.call_with(door, a, b, STATE_LEN)
+        let lent = self.lent(door);
+        self.call_with(door, a, b, lent)
     }
 
-    fn call_with(&mut self, door: Door, a: u32, b: u32, state: usize) -> u32 {
-        let display = self.display();
-        let [pictures, out] =
-            [display.active().pictures_len(), display.active().output_len()].map(length);
-        let [tables, others] = [display.bits(), display.bits().other()].map(Bits::tables_len);
-        let right = [state, tables, pictures, out, self.run, COUNT_LEN];
-        let rng = &mut self.rng;
-        let mut lent = [Lent::default(); BUFFERS];
-        // Runs come less often than other calls, and many of them have bytes.
-        let share = if door.takes(RUN) { 10 } else { 5 };
-        for buffer in (0..BUFFERS).filter(|&buffer| door.takes(buffer)) {
-            let right = right[buffer];
-            let mut near = vec![0, right.saturating_sub(1), right + 1, right + 4];
-            near.extend([others; 2].into_iter().filter(|_| buffer == TABLES));
-            let is_wrong = buffer != STATE && buffer != COUNT && rng.percent(share);
-            let length = if is_wrong { rng.pick(&near) } else { right };
-            lent[buffer] = Lent { length: length.min(ROOM), past: rng.pick(&places(buffer)) };
-        }
-        let step = Step::Call { door, a, b, lent, null: rng.percent(50) };
+    fn call_with(&mut self, door: Door, a: u32, b: u32, lent: [Lent; BUFFERS]) -> u32 {
+        let step = Step::Call { door, a, b, lent, null: self.rng.percent(50) };
         let told = self.stage.play(&step).expect("it is a call");
         self.steps.push(step);
         // A scene may have fifty writes.
         self.calls += i64::from(door != Door::Write);
         told.answer
+    }
+
+    /// What a call needs, or now and then another length near that; a state is whole.
+    fn lent(&mut self, door: Door) -> [Lent; BUFFERS] {
+        let mut lent = [Lent::default(); BUFFERS];
+        let share = match door {
+            // Several wrong lengths at once show the order of the refusals.
+            Door::Line => self.rng.pick(&[0, 0, 0, 40]),
+            // Runs come less often than other calls, and many of them have bytes.
+            Door::PutRun | Door::WriteRun => 10,
+            _ => 6,
+        };
+        for buffer in (0..BUFFERS).filter(|&buffer| door.takes(buffer)) {
+            let right = self.right(door, buffer);
+            let is_wrong = buffer != STATE && buffer != COUNT && self.rng.percent(share);
+            let near = self.near(buffer, right);
+            let length = if is_wrong { self.rng.pick(&near) } else { right };
+            lent[buffer] = Lent { length: length.min(ROOM), past: self.rng.pick(&places(buffer)) };
+        }
+        lent
+    }
+
+    /// How many bytes of a buffer a call needs.
+    fn right(&self, door: Door, buffer: usize) -> usize {
+        let display = self.display();
+        let active = display.active();
+        match buffer {
+            STATE => STATE_LEN,
+            TABLES => display.bits().tables_len(),
+            PICTURES => length(active.pictures_len()),
+            OUTPUT if door == Door::Line => length(active.line_len()),
+            OUTPUT => length(active.output_len()),
+            RUN => self.run,
+            _ => COUNT_LEN,
+        }
+    }
+
+    /// Lengths that are near the right one, or right for other calls and states.
+    fn near(&self, buffer: usize, right: usize) -> Vec<usize> {
+        let mut near = vec![0, right.saturating_sub(4), right.saturating_sub(1)];
+        near.extend([right + 1, right + 4]);
+        match buffer {
+            TABLES => near.extend([self.display().bits().other().tables_len(); 2]),
+            OUTPUT => near.extend([Door::Line, Door::Frame].map(|door| self.right(door, OUTPUT))),
+            _ => {}
+        }
+        near
     }
 
     /// The same state by other bytes: where something is selected, any number but 0 says so, and of
@@ -121,10 +153,11 @@ impl Author {
         let (a, b) = (self.rng.u32(), self.rng.u32());
         let few = self.rng.percent(50);
         let (a, b) = if few { (a % 9, b % 9) } else { (a, b) };
-        let state = self.rng.pick(&[0, 0, 4, 208, 416, 436, 436, 439, 441, 444, 880]);
         // No run, two writes, or the last one again.
         self.run = self.rng.pick(&[0, 10, self.run]);
-        self.call_with(door, a, b, state);
+        let mut lent = self.lent(door);
+        lent[STATE].length = self.rng.pick(&[0, 0, 4, 208, 416, 436, 436, 439, 441, 444, 880]);
+        self.call_with(door, a, b, lent);
     }
 
     // ---- parts
@@ -163,7 +196,7 @@ impl Author {
     fn any_call(&mut self) {
         let rng = &mut self.rng;
         let any = rng.u32();
-        let (door, a, b) = match rng.below(13) {
+        let (door, a, b) = match rng.below(14) {
             0 => (Door::Write, rng.pick(&[0, 1, 3, 51, 52, u32::MAX]), any),
             1 => (Door::Select, rng.pick(&[0, 1, 63, 64, u32::MAX]), 0),
             2 => (Door::Toggle, any, 0),
@@ -177,6 +210,7 @@ impl Author {
             8 => (Door::Frame, 0, 0),
             9 | 10 => return self.run_any_puts(),
             11 => return self.make(),
+            12 => return self.paint_lines(),
             _ => return self.run_writes(),
         };
         self.call(door, a, b);
@@ -305,15 +339,7 @@ impl Author {
 
     /// A whole frame, or a fill and bands over it, or bands over whatever the output holds.
     fn paint(&mut self) {
-        let active = self.display().active().clone();
-        if self.rng.percent(50) {
-            let bytes = pictures(&mut self.rng, length(active.pictures_len()));
-            self.store(PICTURES, bytes);
-        }
-        if self.rng.percent(40) {
-            let bytes = self.rng.bytes(length(active.output_len()));
-            self.store(OUTPUT, bytes);
-        }
+        self.store_pixels(Door::Frame);
         if self.rng.percent(40) {
             self.call(Door::Frame, 0, 0);
             return;
@@ -324,6 +350,29 @@ impl Author {
         let middle = self.rng.range(0, 8) as u32;
         for (low, high) in [(0, middle), (middle, 8), odd_band(&mut self.rng)] {
             self.call(Door::Paint, low, high);
+        }
+    }
+
+    /// Lines, of which some are none or come again, over whatever the output holds.
+    fn paint_lines(&mut self) {
+        let height = self.display().height();
+        for _ in 0..self.rng.range(1, 4) {
+            self.store_pixels(Door::Line);
+            let y = lines::line_number(&mut self.rng, height);
+            self.call(Door::Line, y, 0);
+        }
+    }
+
+    /// At times other pictures, and other bytes in the output, as many as a call needs.
+    fn store_pixels(&mut self, door: Door) {
+        let [shown, out] = [PICTURES, OUTPUT].map(|buffer| self.right(door, buffer));
+        if self.rng.percent(50) {
+            let bytes = pictures(&mut self.rng, shown);
+            self.store(PICTURES, bytes);
+        }
+        if self.rng.percent(40) {
+            let bytes = self.rng.bytes(out);
+            self.store(OUTPUT, bytes);
         }
     }
 }

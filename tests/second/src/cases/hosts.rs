@@ -139,7 +139,7 @@ pub fn frame_number(rng: &mut Rng, words: &Words, now: u32) -> u32 {
 }
 
 /// A length other than the right one, near it as a rule.
-fn wrong_len(rng: &mut Rng, right: usize) -> usize {
+pub fn wrong_len(rng: &mut Rng, right: usize) -> usize {
     let by = rng.pick(&[1, 4, 16]);
     match rng.below(4) {
         0 if right > 0 => 0,

@@ -83,7 +83,8 @@ impl Inputs {
 
     /// What a layer shows at each of its pixels.
     pub fn shown(&self, n: usize) -> Vec<Shown> {
-        shown(&self.words, n, self.frame, self.lent_tables(), &self.pictures.concat())
+        let lines = 0..self.words.height();
+        shown(&self.words, n, lines, self.frame, self.lent_tables(), &self.pictures.concat())
     }
 }
 

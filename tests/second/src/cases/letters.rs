@@ -132,6 +132,8 @@ fn lend_the_others(calls: &mut Vec<Call>, bits: Bits) {
     call(calls, PUT_RUN, 0, 4);
     call(calls, BAND, 0, 8);
     call(calls, FRAME, 0, 0);
+    call(calls, LEND, 2, 4 * WIDTH);
+    call(calls, LINE, 0, 0);
 }
 
 /// A put goes into the tables that are then lent, which a display of two bits would refuse.

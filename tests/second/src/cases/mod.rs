@@ -1,6 +1,6 @@
 //! Seeded cases for the tests: sheets, host calls, scripts of calls, rows of calls from C, runs,
-//! and inputs that meet what a law asks. A case's number is its seed. What is right or wrong about
-//! a case is never decided here.
+//! lines, and inputs that meet what a law asks. A case's number is its seed. What is right or wrong
+//! about a case is never decided here.
 
 mod banks;
 mod calls;
@@ -11,6 +11,7 @@ mod form;
 mod hosts;
 mod laws;
 mod letters;
+mod lines;
 mod runs;
 mod scene;
 mod sheets;
@@ -23,6 +24,7 @@ pub use form::line_text;
 pub use hosts::{gen_host, HostCase, HOST_CALLS};
 pub use laws::{gen_exchange, gen_invisible, gen_one_value, gen_opaque, Inputs, Pair};
 pub use letters::{letter_script, with_lines};
+pub use lines::{drawing_lines, gen_faulty_line, gen_lines, FaultyLine, LinesCase, FAULT_SETS};
 pub use runs::{end_name, gen_run, item_len, write_bytes, RunCase};
 pub use sheets::{gen_sheet, LINES_A_SHEET, SHEETS};
 pub use sweeps::{byte_sheet, number_sheet, word_images, word_sheet};

@@ -1,6 +1,7 @@
 //! What the rows of calls from C reach.
 
 use crate::letters::{made_name, made_names, others_name, others_names, text_kinds, text_names};
+use crate::lines::{assert_lines, line_kinds, order_name, LineCall};
 use crate::runs::{assert_runs, run_kinds, Run};
 use crate::{assert_came, count, show, Counts};
 use second::answers::*;
@@ -73,7 +74,7 @@ fn state_kinds(display: &Display, before: &[u8], door: Door, told: &Told) -> Vec
 }
 
 /// The answers that each call from C can give.
-const DOOR_ANSWERS: [(Door, &[u32]); 11] = [
+const DOOR_ANSWERS: [(Door, &[u32]); 12] = [
     (Door::New, &[0, 17, 23]),
     (Door::Write, &[0, 1, 23]),
     (Door::Select, &[0, 2, 23]),
@@ -83,28 +84,53 @@ const DOOR_ANSWERS: [(Door, &[u32]); 11] = [
     (Door::Fill, &[0, 12, 13, 23]),
     (Door::Paint, &[0, 6, 12, 13, 14, 15, 23]),
     (Door::Frame, &[0, 6, 12, 13, 14, 23]),
+    (Door::Line, &[0, 6, 12, 13, 14, 15, 23]),
     (Door::PutRun, &[0, 3, 4, 5, 6, 23]),
     (Door::WriteRun, &[0, 1, 23]),
 ];
 
 fn count_rows() -> Counts {
     let mut counts = Counts::new();
-    for row in (0..ROWS).map(gen_row) {
-        let mut stage = Stage::new();
-        for step in row {
-            let before = stage.rooms[STATE][..STATE_LEN].to_vec();
-            let Some(told) = stage.play(&step) else { continue };
-            count(&mut counts, door_kinds(&before, &step, &told));
-            count(&mut counts, letter_kinds(&before, &step, &told, &stage.rooms[TABLES]));
-            let Step::Call { door, lent, .. } = step else { continue };
-            if door.takes(RUN) {
-                let bytes = &stage.rooms[RUN][..lent[RUN].length];
-                let run = Run { door, state: &before, tables: lent[TABLES].length, bytes };
-                count(&mut counts, run_kinds(&run, &told));
-            }
-        }
-    }
+    (0..ROWS).map(gen_row).for_each(|row| count_row(row, &mut counts));
     counts
+}
+
+fn count_row(row: Vec<Step>, counts: &mut Counts) {
+    let mut stage = Stage::new();
+    // The line that the call before has painted.
+    let mut last = None;
+    for step in row {
+        let Step::Call { door, a, lent, .. } = step else {
+            stage.play(&step);
+            continue;
+        };
+        let before = stage.rooms[STATE][..STATE_LEN].to_vec();
+        let old = stage.rooms[OUTPUT][..lent[OUTPUT].length].to_vec();
+        let told = stage.play(&step).expect("it is a call");
+        count(counts, door_kinds(&before, &step, &told));
+        count(counts, letter_kinds(&before, &step, &told, &stage.rooms[TABLES]));
+        let lent_bytes = |buffer: usize| &stage.rooms[buffer][..lent[buffer].length];
+        if door.takes(RUN) {
+            let (tables, bytes) = (lent[TABLES].length, lent_bytes(RUN));
+            count(counts, run_kinds(&Run { door, state: &before, tables, bytes }, &told));
+        }
+        if door == Door::Line && told.answer != WRONG_STATE {
+            let line = LineCall {
+                before: &read_state(&before).expect("it is whole"),
+                y: a,
+                tables: lent_bytes(TABLES),
+                pictures: lent[PICTURES].length,
+                old: &old,
+                answer: told.answer,
+                errors: read_state(&told.state).expect("it is whole").errors(),
+            };
+            count(counts, line_kinds("Line", &line));
+        }
+        let painted = (door == Door::Line && told.answer == DONE).then_some(a);
+        let order = last.zip(painted).map(|(last, y)| order_name(last, y));
+        count(counts, order.map(|kind| format!("Line {kind}")));
+        last = painted;
+    }
 }
 
 /// What a painting shows of the glyphs in its tables, by names.
@@ -122,7 +148,8 @@ fn letter_kinds(before: &[u8], step: &Step, told: &Told, tables: &[u8]) -> BTree
     };
     let layers = active.order().into_iter().filter(is_drawn);
     let (frame, tables) = (display.frame_number(), display.tables(tables));
-    layers.flat_map(|n| text_kinds(active, n, frame, tables)).collect()
+    let lines = 0..active.height();
+    layers.flat_map(|n| text_kinds(active, n, &lines, frame, tables)).collect()
 }
 
 /// Every call with each of its answers, and what is lent to it anywhere modulo 16 and as NULL.
@@ -147,12 +174,13 @@ fn assert_calls(counts: &Counts) {
 fn assert_damages(counts: &Counts) {
     let damages =
         ["reserved bits", "an empty layer", "a layer off the screen", "layers of one depth"];
-    for door in [Door::Fill, Door::Paint, Door::Frame] {
+    for door in [Door::Fill, Door::Paint, Door::Frame, Door::Line] {
         assert_came(counts, damages.map(|damage| format!("{door:?} over {damage}")), 10);
     }
     let others = [
         "damaged, Paint answers 14",
         "damaged, Frame answers 14",
+        "damaged, Line answers 14",
         "Put by a selection above 63",
         "Put past the end, 5",
         "PutRun by a selection above 63",
@@ -172,7 +200,7 @@ fn assert_damages(counts: &Counts) {
 /// Glyphs of one bit and two, tables of the other number's length, and states made by any number.
 fn assert_letters(counts: &Counts) {
     assert_came(counts, text_names(), 50);
-    assert_came(counts, others_names(&["Put", "PutRun", "Paint", "Frame"]), 10);
+    assert_came(counts, others_names(&["Put", "PutRun", "Paint", "Frame", "Line"]), 10);
     assert_came(counts, made_names(), 10);
 }
 
@@ -184,4 +212,5 @@ fn rows_reach_everything() {
     assert_damages(&counts);
     assert_letters(&counts);
     assert_runs(&counts);
+    assert_lines(&counts);
 }

@@ -2,9 +2,11 @@
 //! tables of the other length, and displays by any number.
 
 use second::draw::{Instruction, Letters, List};
+use second::paint::pixels;
 use second::tables::{Bits, Kind, Tables, COLOURS};
 use second::words::Words;
 use std::collections::BTreeSet;
+use std::ops::Range;
 
 pub fn bits_name(bits: Bits) -> &'static str {
     match bits {
@@ -13,9 +15,15 @@ pub fn bits_name(bits: Bits) -> &'static str {
     }
 }
 
-/// What is seen of the glyphs of a graphics layer, by names: each value at each scale, and where a
-/// sum of text colour and value passes 15.
-pub fn text_kinds(words: &Words, n: usize, frame: u32, tables: Tables) -> BTreeSet<String> {
+/// What is seen on those lines of the glyphs of a graphics layer, by names: each value at each
+/// scale, and where a sum of text colour and value passes 15.
+pub fn text_kinds(
+    words: &Words,
+    n: usize,
+    lines: &Range<i64>,
+    frame: u32,
+    tables: Tables,
+) -> BTreeSet<String> {
     let layer = words.layer(n);
     let list = List::read(tables.active(words, Kind::Instruction, n));
     let letters = Letters::active(words, n, tables);
@@ -24,10 +32,8 @@ pub fn text_kinds(words: &Words, n: usize, frame: u32, tables: Tables) -> BTreeS
         true => layer.fade.at(frame),
         false => colours[4 * (index % COLOURS) + 3].into(),
     };
-    let columns = layer.width.min(words.width() - layer.x);
-    let rows = layer.height.min(words.height() - layer.y);
     let mut kinds = BTreeSet::new();
-    for (u, v) in (0..rows).flat_map(|v| (0..columns).map(move |u| (u, v))) {
+    for (u, v) in pixels(words, n, lines) {
         for (text, value) in values_at(&list, &letters, u, v) {
             let sum = (text.text_colour + value).saturating_sub(1);
             if value > 0 && alpha(sum) == 0 {

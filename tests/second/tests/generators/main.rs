@@ -3,10 +3,12 @@
 
 mod doors;
 mod letters;
+mod lines;
 mod runs;
 
 use letters::{bits_name, text_kinds, text_names, value_names};
 use letters::{made_name, made_names, others_name, others_names};
+use lines::{line_kinds, line_names, LineCall};
 use second::answers::*;
 use second::cases::{end_name, gate_script, gen_calls, gen_edges, gen_host, gen_row, gen_sheet};
 use second::cases::{HostCase, EDGES, HOST_CALLS, LINES_A_SHEET};
@@ -71,7 +73,7 @@ fn painted_kinds(
             let list = List::read(tables.active(words, Kind::Instruction, n));
             kinds.extend((!list.ended).then(|| "list without END".into()));
             kinds.extend(layer.global_alpha.then(|| "list at global alpha".into()));
-            kinds.extend(text_kinds(words, n, frame, tables));
+            kinds.extend(text_kinds(words, n, &(0..words.height()), frame, tables));
         }
     }
     kinds
@@ -253,8 +255,13 @@ fn kinds(before: &Stage, call: Call, told: (u32, usize), after: &Stage) -> Vec<S
     if CALLS.contains(&call.letter) || call.letter == NEW {
         kinds.push(format!("answer {answer}"));
     }
-    if answer == DONE && call.paints() {
+    if call.letter == LINE {
+        kinds.push(format!("{letter} answers {answer}"));
+        kinds.extend(line_kinds("Y", &line_call(before, call, answer, after)));
+    } else if answer == DONE && call.paints() {
         kinds.extend(painting_kinds(before, call, after));
+    } else {
+        kinds.extend(wrong_lengths(before, call, answer));
     }
     let errors = (before.display.errors(), after.display.errors());
     kinds.extend(match call.letter {
@@ -266,7 +273,6 @@ fn kinds(before: &Stage, call: Call, told: (u32, usize), after: &Stage) -> Vec<S
         NEW => vec![made_name(call.a, before.display.bits())],
         _ => Vec::new(),
     });
-    kinds.extend(wrong_lengths(before, call, answer));
     let bits = before.display.bits();
     let is_others = answer == WRONG_TABLES && before.lent.tables == bits.other().tables_len();
     kinds.extend(is_others.then(|| others_name(&letter.to_string(), bits)));
@@ -301,6 +307,18 @@ fn run_kinds(before: &Stage, call: Call, told: (u32, usize), after: &Stage) -> V
     ];
     let so = so.iter().filter(|(_, is_so)| *is_so).map(|(kind, _)| format!("{letter} {kind}"));
     [format!("{letter} {end}, {answer}"), behind].into_iter().chain(so).collect()
+}
+
+fn line_call<'a>(before: &'a Stage, call: Call, answer: u32, after: &'a Stage) -> LineCall<'a> {
+    LineCall {
+        before: &before.display,
+        y: call.a,
+        tables: &before.tables[..before.lent.tables],
+        pictures: before.lent.pictures,
+        old: &before.out[call.lent_out(before.lent.out)],
+        answer,
+        errors: after.display.errors(),
+    }
 }
 
 /// What a fill, a band or a frame does that is not refused.
@@ -399,7 +417,7 @@ fn wanted_kinds() -> Vec<String> {
 
 /// What they have of glyphs of one bit and two.
 fn wanted_letters() -> Vec<String> {
-    [text_names(), others_names(&["P", "U", "B", "R"])].concat()
+    [text_names(), others_names(&["P", "U", "B", "R", "Y"])].concat()
 }
 
 #[test]
@@ -419,6 +437,7 @@ fn scripts_reach_everything() {
     let past = ["U", "X"].map(|letter| format!("{letter} from past the pictures"));
     assert_came(&counts, wanted_kinds(), 10);
     assert_came(&counts, wanted_letters(), 5);
+    assert_came(&counts, line_names("Y"), 5);
     assert_came(&counts, lengths.concat(), 5);
     assert_came(&counts, empty.into_iter().chain(past), 5);
     assert_came(&counts, FADES.map(String::from), 10);
@@ -434,6 +453,7 @@ fn the_script_of_the_gate_has_every_kind() {
     show("records of the gate's script by kind", &counts);
     assert_came(&counts, wanted_kinds(), 1);
     assert_came(&counts, wanted_letters(), 1);
+    assert_came(&counts, line_names("Y"), 1);
     assert_came(&counts, made_names(), 1);
 }
 

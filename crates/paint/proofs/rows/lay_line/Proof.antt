@@ -1,5 +1,5 @@
 -- `paint::rows::lay_line` meets its contract: the layers that were laid with the line's ground and then the others
--- are the band. Assumes nothing.
+-- are the part. Assumes nothing.
 use borrow.Author.Needs.{needs}
 use mathlib.Core.Path.{refl, _∙_}
 use native.Mathlib.Omega.{arith}
@@ -24,11 +24,11 @@ same-length c = search needs
 returns : tie.Need-returns
 returns c =
     record {
-      laid = λ s a b same long q band.
-          ground-line s a b _ _ _ _ _ _ _ (band .order) (band .end) q
+      laid = λ s part same long q of on.
+          ground-line s part _ _ _ _ _ _ _ (of .order) (of .end) on q
           (c .before .before .before .lay-first .ensures .over s _ (same .1) (length-each _ _ ∙ long)
-          (planned-first s _ _ (band .planned)))
-          (line-done s _ _ _ _ (omega (arith, band .planned .count, c .if1 .taken)) refl);
+          (planned-first s _ _ (of .planned)))
+          (line-done s _ _ _ _ (omega (arith, of .planned .count, c .if1 .taken)) refl);
     }
 
 paint-line-requires : tie.Need-paint-line-requires
@@ -51,10 +51,10 @@ returns-2 c =
     let rest = c .before .before .before .before .before .before in
     let first = rest .before .before .before .before .before .before .before .lay-first in
     record {
-      laid = λ s a b same long q band.
-          ground-line s a b _ _ _ _ _ _ _ (band .order) (band .end) q
-          (first .ensures .over s _ (same .1) (length-each _ _ ∙ long) (planned-first s _ _ (band .planned)))
-          (rest .paint-line .ensures .over s _ same (first .kept .0 ∙ long) (band .planned));
+      laid = λ s part same long q of on.
+          ground-line s part _ _ _ _ _ _ _ (of .order) (of .end) on q
+          (first .ensures .over s _ (same .1) (length-each _ _ ∙ long) (planned-first s _ _ (of .planned)))
+          (rest .paint-line .ensures .over s _ same (first .kept .0 ∙ long) (of .planned));
     }
 
 pub lay-line-spec : {M : Type 1} → statement M

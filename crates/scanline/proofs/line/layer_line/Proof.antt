@@ -30,7 +30,7 @@ graphics-line-requires c κs =
       top = c .before .before .before .before .before .before .if1 .left;
       bottom = c .before .before .before .before .if2 .left;
     } in
-    ((row, a .pre .0 .on, c .before .before .before .if3 .taken), (a .pre .0 .banked, a .pre .1))
+    let drawn = c .before .before .before .if3 .taken in ((row, a .pre .0 .on, drawn), (a .pre .0 .banked drawn, a .pre .1 drawn))
 
 same-length : tie.Need-same-length
 same-length c = c .before .before .before .before .before .before .graphics-line .kept .0

@@ -37,9 +37,12 @@ element-copy-out-step c = omega (arith, c .before .before .before .before .befor
 layer-line-requires : tie.Need-layer-line-requires Inv-loop μ-loop
 layer-line-requires c κs =
     let a = c .before .before .before .before .before .before .before .before .before .before .before in
-    let i = c .before .before .before .before .before .loop .inv in (
-      rw (i .1) (a .pre .0 .fit _ (c .before .before .before .before .loop-test .taken)),
-      record { wide = omega (arith, i .1, i .2, a .pre .1 .wide); long = omega (arith, i .1, i .3, a .pre .1 .long) },
+    let i = c .before .before .before .before .before .loop .inv in
+    let t = c .before .before .before .before .loop-test .taken in (
+      rw (i .1) (a .pre .0 .fit _ t),
+      λ g.
+          let room = a .pre .1 (a .pre .0 .drawn _ t g) in
+          record { wide = omega (arith, i .1, i .2, room .wide); long = omega (arith, i .1, i .3, room .long) },
     )
 
 add-i : tie.Need-add-i Inv-loop μ-loop

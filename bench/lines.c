@@ -1,0 +1,146 @@
+/* The table of lines: what a frame costs line by line beside the whole frame. */
+#include <stdio.h>
+#include <stdlib.h>
+#include <string.h>
+
+#include "lines.h"
+#include "report.h"
+#include "run.h"
+#include "subjects.h"
+
+static const double SECONDS = 2;
+
+/* Where a state's active registers, frame number and bits a glyph pixel stand. */
+enum { ACTIVE_AT = 208, FRAME_AT = 416, PROFILE_AT = 436 };
+
+/* ---- the painters */
+
+/* A kept display without a buffer for its frame. */
+struct panel {
+    uint8_t state[SPOONWING_STATE_LEN], *line;
+};
+
+static size_t line_length(const struct scene *scene)
+{
+    return (size_t)PIXEL * scene->width;
+}
+
+static void *prepare(const struct scene *scene, uint8_t *output)
+{
+    struct panel *panel = room(sizeof *panel);
+    (void)output;
+    memset(panel->state, 0, sizeof panel->state);
+    memcpy(panel->state + ACTIVE_AT, scene->image, sizeof scene->image);
+    put_word(panel->state + FRAME_AT, scene->frame);
+    put_word(panel->state + PROFILE_AT, scene->bits == 2);
+    panel->line = room(line_length(scene));
+    return panel;
+}
+
+static void drop(void *prepared)
+{
+    struct panel *panel = prepared;
+    free(panel->line);
+    free(panel);
+}
+
+static void done(uint32_t answer)
+{
+    if (answer == SPOONWING_DONE)
+        return;
+    fprintf(stderr, "bench: a kept display refused with %u\n", (unsigned)answer);
+    exit(1);
+}
+
+static void paint_line(const struct scene *scene, struct panel *panel, uint32_t y)
+{
+    done(spoonwing_display_line(panel->state, sizeof panel->state, y, scene->tables,
+                                tables_length(scene), scene->pictures, scene->pictures_length,
+                                panel->line, line_length(scene)));
+}
+
+static void paint_lines(const struct scene *scene, uint8_t *output, void *panel)
+{
+    (void)output;
+    for (uint32_t y = 0; y < scene->height; y++)
+        paint_line(scene, panel, y);
+}
+
+static void paint_frame(const struct scene *scene, uint8_t *output, void *prepared)
+{
+    struct panel *panel = prepared;
+    done(spoonwing_display_frame(panel->state, sizeof panel->state, scene->tables,
+                                 tables_length(scene), scene->pictures, scene->pictures_length,
+                                 output, frame_length(scene)));
+}
+
+const struct painter BY_LINES = {
+    .name = "spoonwing_display_line", .prepare = prepare, .paint = paint_lines, .drop = drop};
+const struct painter BY_FRAME = {
+    .name = "spoonwing_display_frame", .prepare = prepare, .paint = paint_frame, .drop = drop};
+
+/* ---- bytes */
+
+static void check_line(const struct scene *scene, struct panel *panel, uint32_t y,
+                       const uint8_t *wanted)
+{
+    size_t length = line_length(scene);
+    memset(panel->line, 0xA5, length);
+    paint_line(scene, panel, y);
+    if (memcmp(panel->line, wanted + length * y, length) == 0)
+        return;
+    fprintf(stderr, "bench: line %u is not the frame's at %u x %u with %d layers\n", (unsigned)y,
+            (unsigned)scene->width, (unsigned)scene->height, scene->layers);
+    exit(1);
+}
+
+/* spoonwing_frame's bytes are held to the formula elsewhere; here the frame and its lines are held
+ * to them. */
+static void check_scene(const struct subject *subject, const struct size *size)
+{
+    struct scene *scene = subject->make(size->width, size->height);
+    uint8_t *wanted = room(frame_length(scene));
+    struct run whole = new_run(&BY_FRAME, scene, room(frame_length(scene)));
+    SPOONWING.paint(scene, wanted, NULL);
+    checked(&whole, wanted);
+    for (uint32_t y = 0; y < scene->height; y++)
+        check_line(scene, whole.prepared, y, wanted);
+    drop_run(&whole);
+    free(whole.output);
+    free(wanted);
+    drop_scene(scene);
+}
+
+void check_lines(void)
+{
+    each_subject(check_scene);
+    printf("Every line of a kept display is that of its frame.\n\n");
+}
+
+/* ---- times */
+
+static void print_row(const struct subject *subject, const struct size *size)
+{
+    struct scene *scene = subject->make(size->width, size->height);
+    uint8_t *output = room(frame_length(scene));
+    struct run runs[] = {new_run(&BY_LINES, scene, output), new_run(&BY_FRAME, scene, output)};
+    take_turns(runs, 2, SECONDS);
+    printf("| %s, %u x %u |", subject->name, (unsigned)size->width, (unsigned)size->height);
+    print_cell(runs[0].least / runs[1].least, size == &SIZE[0] ? subject->lines_wanted : 0);
+    printf(" %.0f |\n", 1e9 * runs[0].least / scene->height);
+    fflush(stdout);
+    drop_run(&runs[0]);
+    drop_run(&runs[1]);
+    free(output);
+    drop_scene(scene);
+}
+
+void print_lines(void)
+{
+    printf("A frame by lines: the time of spoonwing_display_line on all lines of a frame, as a\n"
+           "multiple of spoonwing_display_frame's on the same state; in brackets the most that\n"
+           "is wanted.\n\n"
+           "| Scene | by lines to the whole frame | ns a line |\n|---|---|---|\n");
+    each_subject(print_row);
+    printf("\n");
+}
