@@ -1,6 +1,6 @@
 /* Paintings for an emulator that logs what is executed: the subjects at the smaller size, each step
  * of growth at a quarter of its width and height, text and frames by lines at the smaller size; and
- * a kept display's calls and loads. */
+ * a kept display's calls and loads, and mending. */
 #define _XOPEN_SOURCE 700
 #include <stdio.h>
 #include <stdlib.h>
@@ -11,6 +11,7 @@
 #include "kept.h"
 #include "lines.h"
 #include "loads.h"
+#include "mending.h"
 #include "report.h"
 #include "run.h"
 #include "subjects.h"
@@ -104,6 +105,19 @@ static void load_marked(int load)
     do_marked(do_load, new_kept(PUT), load, WAYS);
 }
 
+/* Marks the second turn of two, as with paintings. */
+static void mend_marked(int image)
+{
+    dprintf(STDOUT_FILENO, "mending\t%s\t%d\n", IMAGE_NAME[image], MENDINGS);
+    for (int side = 0; side < SIDES; side++) {
+        struct mending mending = new_mending(image, side);
+        do_mending(&mending);
+        mark("begin\n");
+        do_mending(&mending);
+        mark("end\n");
+    }
+}
+
 void paint_counted(void)
 {
     for (int i = 0; i < SUBJECTS; i++)
@@ -118,4 +132,6 @@ void paint_counted(void)
         work_marked(i);
     for (int i = 0; i < LOADS; i++)
         load_marked(i);
+    for (int i = 0; i < IMAGES; i++)
+        mend_marked(i);
 }

@@ -28,6 +28,7 @@ int main(int count, char **words)
     check_text();
     check_lines();
     check_calls();
+    check_mending();
     print_stack();
     if (!is_bytes) {
         print_ratios();
@@ -36,6 +37,7 @@ int main(int count, char **words)
         print_lines();
         print_calls();
         print_loads();
+        print_mending();
     }
     printf("Numbers that miss what is wanted: %d\n", misses());
     return 0;

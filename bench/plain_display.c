@@ -2,19 +2,9 @@
 #include <string.h>
 
 #include "plain_display.h"
+#include "plain_words.h"
 
-enum { LAYERS = 8, FIRST_LAYER = 4, LAYER_WORDS = 6, UPDATE_ENABLE = 4 };
-
-static uint32_t low_half(uint32_t word) { return word & 4095; }
-static uint32_t high_half(uint32_t word) { return word >> 16 & 4095; }
-
-static const uint32_t *layer_words(const uint32_t *words, int n)
-{
-    return words + FIRST_LAYER + LAYER_WORDS * n;
-}
-
-static int is_enabled(const uint32_t *layer) { return layer[0] & 1; }
-static int is_graphics(const uint32_t *layer) { return layer[0] >> 1 & 1; }
+enum { UPDATE_ENABLE = 4 };
 
 /* ---- registers */
 
@@ -44,14 +34,11 @@ uint32_t plain_write_run(struct plain_display *display, const uint8_t *run, size
 
 static int has_reserved(const uint32_t *words)
 {
-    static const uint32_t first[FIRST_LAYER] = {5, 0x0FFF0FFF, 0x00FFFFFF, 0xFFFFFFFF};
-    static const uint32_t layer[LAYER_WORDS] = {0x703,      0x800000FF, 0x0FFF0FFF,
-                                                0x0FFF0FFF, 0xFFFFFFFF, 0x00FFFFFF};
     uint32_t reserved = 0;
     for (int i = 0; i < FIRST_LAYER; i++)
-        reserved |= words[i] & ~first[i];
+        reserved |= words[i] & ~FIRST_BITS[i];
     for (int i = FIRST_LAYER; i < REGISTERS; i++)
-        reserved |= words[i] & ~layer[(i - FIRST_LAYER) % LAYER_WORDS];
+        reserved |= words[i] & ~LAYER_BITS[(i - FIRST_LAYER) % LAYER_WORDS];
     return reserved != 0;
 }
 
@@ -59,7 +46,7 @@ static int has_reserved(const uint32_t *words)
 static uint32_t layer_refusal(const uint32_t *layer, uint32_t screen)
 {
     uint32_t corner = layer[2], size = layer[3];
-    if (low_half(size) == 0 || high_half(size) == 0)
+    if (is_empty(size))
         return SPOONWING_EMPTY_LAYER;
     if (low_half(corner) + low_half(size) > low_half(screen) ||
         high_half(corner) + high_half(size) > high_half(screen))
@@ -72,11 +59,11 @@ static uint32_t check(const uint32_t *words)
     uint32_t depths = 0, same = 0;
     if (has_reserved(words))
         return SPOONWING_RESERVED_BIT;
-    if (low_half(words[1]) == 0 || high_half(words[1]) == 0)
+    if (is_empty(words[1]))
         return SPOONWING_EMPTY_SCREEN;
     for (int n = 0; n < LAYERS; n++) {
-        const uint32_t *layer = layer_words(words, n);
-        uint32_t depth = UINT32_C(1) << (layer[0] >> 8 & 7);
+        const uint32_t *layer = words + layer_at(n);
+        uint32_t depth = UINT32_C(1) << depth_of(layer);
         if (!is_enabled(layer))
             continue;
         uint32_t answer = layer_refusal(layer, words[1]);
@@ -208,7 +195,7 @@ uint32_t plain_refusal(const struct plain_display *display, uint32_t low, uint32
     if (tables_length != tables_asked(display))
         return SPOONWING_BAD_TABLES_LENGTH;
     for (int n = 0; n < LAYERS; n++) {
-        const uint32_t *layer = layer_words(display->active, n);
+        const uint32_t *layer = display->active + layer_at(n);
         pictures += is_enabled(layer) && !is_graphics(layer) ? pixel_bytes(layer[3]) : 0;
     }
     return pictures_length == pictures ? SPOONWING_DONE : SPOONWING_BAD_PICTURES_LENGTH;

@@ -35,10 +35,16 @@ void print_calls(void);
 /* The time of a load by one run as a multiple of other ways'. */
 void print_loads(void);
 
+/* Compares what spoonwing_mend leaves of an image, and its list, with plain C's, likewise. */
+void check_mending(void);
+
+/* The time of spoonwing_mend as a multiple of plain C's. */
+void print_mending(void);
+
 /* Paints and calls for an emulator that logs what is executed. Among the log stand a line for each
  * row, its table, its name, for ratios its pixels, for text the most that is wanted, and for lines,
- * calls and loads their number, with tabs between, and around each painting, each side's calls and
- * each way's loads of the row the lines "begin" and "end". */
+ * calls, loads and mending their number, with tabs between, and around each painting, each side's
+ * calls or mendings and each way's loads of the row the lines "begin" and "end". */
 void paint_counted(void);
 
 /* A cell with a number and, where one is wanted, the most that it may be. */

@@ -1,8 +1,10 @@
-/* Spoonwing for C hosts, in four parts:
+/* Spoonwing for C hosts, in five parts:
  *
  *   tables                     lists, colours, strings and fonts as they are lent, with one bit a
  *                              glyph pixel or with two
  *   a frame without a state    spoonwing_frame: register image in, frame out
+ *   mending a register image   spoonwing_mend: an image that is refused in, one that passes out,
+ *                              with a list of what was changed
  *   keeping a display          spoonwing_display_...: make it, write registers, load tables, start
  *                              frames, paint, read
  *   storing a state            the 440 bytes that a kept display is
@@ -14,7 +16,8 @@
  * What holds for every call
  *   Buffers   Each pointer is followed by its length in bytes and must point to that many. Where
  *             the length is 0 nothing is read or written through it, and it may be NULL. No buffer
- *             has to be aligned. Only `done` of a run has no length: an aligned size_t, never NULL.
+ *             has to be aligned. Only three have no length; they are aligned and never NULL: `done`
+ *             of a run and `count`, a size_t each, and `list`, 156 uint32_t.
  *   Overlap   A buffer that a call may write must not overlap any other of that call. Those that
  *             it only reads (const) may overlap each other.
  *   Threads   Nothing is kept but what the buffers hold. Calls on several threads are safe while
@@ -36,11 +39,15 @@ extern "C" {
 #define SPOONWING_SOFT_TABLES_LENGTH 41984u /* with two */
 #define SPOONWING_STATE_LEN 440u
 
+/* The length of a list of changes, in numbers: three for each of 52 words. */
+#define SPOONWING_CHANGES_LENGTH 156u
+
 /* ---- answers
  *
  * Which call answers which, refusals in the order in which they are asked:
  *
  *   spoonwing_frame     16, 7, 8, 9 and 10, 11, 13, 6, 14
+ *   spoonwing_mend      16, 8
  *   display_new         23, 17
  *   display_write       23, 1
  *   display_write_run   23, 1
@@ -90,11 +97,15 @@ static inline const char *spoonwing_refusal(uint32_t answer)
     case SPOONWING_BANK_ACTIVE: return "the bank is being shown: load the other one, then start";
     case SPOONWING_BANK_FULL: return "the table is full: put no more, or select it anew";
     case SPOONWING_BAD_TABLES_LENGTH: return "wrong tables: lend 29,696 bytes, for two bits 41,984";
-    case SPOONWING_RESERVED_BIT: return "a reserved bit is set: clear all bits without a meaning";
+    case SPOONWING_RESERVED_BIT:
+        return "a reserved bit is set: clear all bits without a meaning, or mend the image";
     case SPOONWING_EMPTY_SCREEN: return "the screen is empty: give register 1 a width and a height";
-    case SPOONWING_EMPTY_LAYER: return "a layer is empty: give it a size, or disable it";
-    case SPOONWING_OFF_SCREEN: return "a layer leaves the screen: move it, shrink it or disable it";
-    case SPOONWING_SAME_DEPTH: return "two layers have one depth: give each its own";
+    case SPOONWING_EMPTY_LAYER:
+        return "a layer is empty: give it a size, disable it, or mend the image";
+    case SPOONWING_OFF_SCREEN:
+        return "a layer leaves the screen: move it, shrink it, disable it, or mend the image";
+    case SPOONWING_SAME_DEPTH:
+        return "two layers have one depth: give each its own, or mend the image";
     case SPOONWING_NO_SIZE: return "the screen has no size yet: start with the update bit set";
     case SPOONWING_BAD_OUTPUT_LENGTH:
         return "wrong output: lend 4 * width * height bytes, for a line 4 * width";
@@ -156,6 +167,39 @@ uint32_t spoonwing_frame(const uint8_t *image, size_t image_length,
                          const uint8_t *tables, size_t tables_length,
                          const uint8_t *pictures, size_t pictures_length,
                          uint8_t *output, size_t output_length);
+
+/* ---- mending a register image */
+
+/* Makes of an image that is refused one that passes every check of a start (7 to 11), and lists
+ * what it changed. An image that passes comes back as it was with nothing listed, and so does a
+ * mended one.
+ *
+ * image     208 bytes: 52 register words, each little-endian. It is mended in place.
+ * list      156 numbers. For each word that is not as it came: register, old value, new value, in
+ *           register order from the first number on. What stands past 3 * count is unchanged.
+ * count     becomes the number of changed words, at most 52; with a refusal it becomes 0.
+ *
+ * In this order, each step on what the one before it left:
+ *
+ *   1  reserved bits are cleared;
+ *   2  enabled layers of no width or no height are switched off: bit 0 goes, all else is kept;
+ *   3  so are enabled frame layers wider or higher than the screen, since a picture is not cut;
+ *   4  along each axis an enabled layer larger than the screen is put at 0 and cut to the screen,
+ *      and one that sticks out is moved to the left or up, just far enough;
+ *   5  in layer order, an enabled layer whose depth a lower-numbered enabled layer holds gets the
+ *      smallest depth that no enabled layer had when this step began and that was not given.
+ *
+ * A screen of no width or no height has no repair: 8. A refusal leaves image and list as they were.
+ *
+ * What a designer wants to know is in the list:
+ *
+ *     for (const uint32_t *at = list; at < list + 3 * count; at += 3)
+ *         printf("register %u had %08X and has %08X\n", at[0], at[1], at[2]);
+ *
+ * Each old value put back in its register gives the image as it came. Pictures go by the mended
+ * image: that of a layer which was switched off is lent no more. The first 208 bytes of a state are
+ * its pending registers, so they can be mended where they stand when a start has refused them. */
+uint32_t spoonwing_mend(uint8_t *image, size_t image_length, uint32_t *list, size_t *count);
 
 /* ---- keeping a display
  *

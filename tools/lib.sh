@@ -40,17 +40,18 @@ has_archive() {
     [ -e "$archive" ] && [ -z "$(find "$top/crates" "$top/crates.txt" -newer "$archive" -print -quit)" ]
 }
 
-# spoonwing_archive: proves and builds the archives of the frame entry and of the display's calls,
-# and joins them in that one; rt proves an archive's crate anew each time, so not where nothing has
-# changed. ADDLIB takes each member as it is, so that members of one name stay two. The kit's llvm-ar
-# knows x86-64 objects on every processor.
+# spoonwing_archive: proves and builds the archives of the frame entry, of mending and of the
+# display's calls, and joins them in that one; rt proves an archive's crate anew each time, so not
+# where nothing has changed. ADDLIB takes each member as it is, so that members of one name all stay.
+# The kit's llvm-ar knows x86-64 objects on every processor.
 spoonwing_archive() {
     if has_archive; then return; fi
     rm -f "$archive"
-    (cd "$top" && rt staticlib host && rt staticlib display)
+    (cd "$top" && rt staticlib host && rt staticlib repair && rt staticlib display)
     (cd "$(dirname "$archive")" && "$(kit)/bin/llvm-ar" -M) <<'SCRIPT'
 CREATE libspoonwing.a
 ADDLIB libhost.a
+ADDLIB librepair.a
 ADDLIB libdisplay.a
 SAVE
 END

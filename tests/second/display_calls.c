@@ -13,6 +13,7 @@
 #include <stdlib.h>
 #include <string.h>
 
+#include "numbers.h"
 #include "spoonwing.h"
 
 enum { GUARD = 64, ROOM = 1 << 17, ALIGNMENT = 16, GUARD_BYTE = 0xA5 };
@@ -32,17 +33,6 @@ struct lent {
 };
 
 /* ---- numbers in and out */
-
-static uint32_t number(const uint8_t *bytes)
-{
-    return bytes[0] | bytes[1] << 8 | bytes[2] << 16 | (uint32_t)bytes[3] << 24;
-}
-
-static void tell_number(uint32_t n)
-{
-    for (int i = 0; i < 4; i++)
-        putchar((int)(n >> (8 * i) & 255));
-}
 
 static int read_numbers(uint32_t *numbers)
 {

@@ -6,6 +6,7 @@
 #include <stdlib.h>
 #include <string.h>
 
+#include "numbers.h"
 #include "spoonwing.h"
 
 enum { GUARD = 64, BUFFERS = 4, OUTPUT = 3, NUMBERS = 2 + BUFFERS };
@@ -15,17 +16,6 @@ struct buffer {
     uint8_t *kept; /* the whole room as it was before the call */
     size_t length;
 };
-
-static uint32_t number(const uint8_t *bytes)
-{
-    return bytes[0] | bytes[1] << 8 | bytes[2] << 16 | (uint32_t)bytes[3] << 24;
-}
-
-static void put_number(uint32_t n)
-{
-    for (int i = 0; i < 4; i++)
-        putchar((int)(n >> (8 * i) & 255));
-}
 
 static struct buffer read_buffer(size_t length)
 {
@@ -69,8 +59,8 @@ int main(void)
         uint32_t spoilt = 0;
         for (int i = 0; i < BUFFERS; i++)
             spoilt |= (uint32_t)touched(&b[i], i == OUTPUT);
-        put_number(answer);
-        put_number(spoilt);
+        tell_number(answer);
+        tell_number(spoilt);
         fwrite(b[OUTPUT].room + GUARD, 1, b[OUTPUT].length, stdout);
         fflush(stdout);
         for (int i = 0; i < BUFFERS; i++) {

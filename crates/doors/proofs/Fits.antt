@@ -13,11 +13,8 @@ use lib.Pow.{pow-lt, pow-pos}
 use lib.Dec.{ltb, eqb}
 use lib.ListN.{length, getD, drop, replicate, set, length-set}
 use lib.Seq.{getD-drop, getD-set-same, getD-set-other}
-use Rattle.lists.specs.Little.{littleAt}
-use Rattle.lists.specs.Tab.{tab}
 use Rattle.lists.proofs.Choice.{same-or, pick-keeps, choose-keeps}
 use Rattle.lists.proofs.Run.{run-keeps}
-use Rattle.lists.proofs.Tab.{length-tab}
 use Rattle.lists.proofs.Little.{little-fits}
 use Rattle.answers.specs.Answers.{done, bankFull}
 use Rattle.runs.specs.Writes.{Write, firstWrites, writesIn}
@@ -29,7 +26,7 @@ use Rattle.profiles.proofs.ProfileLaws.{bits-few}
 use Rattle.words.specs.Fields.{updateOf, shownOf, layerOf}
 use Rattle.words.specs.Order.{here}
 use Rattle.words.specs.Check.{checkOf}
-use Rattle.words.specs.Image.{wordsFrom}
+use Rattle.words.proofs.ImageLaws.{words-long, words-fit}
 use Rattle.tables.specs.Selection.{kindOf, endOf, controllerOf}
 use Rattle.tables.specs.declared.Selection.{Selection}
 use Rattle.tables.proofs.Geometry.{kind-room, bank-le}
@@ -51,27 +48,12 @@ use Rattle.doors.specs.Rows.{ask-put-run, ask-write-run, ask-fill, ask-p
 
 -- ---- out of bytes
 
-tab-below : (n b : ℕ) (f : ℕ → ℕ) → 0 < b → ((i : ℕ) → f i < b) → (i : ℕ) → getD (tab n f) i 0 < b
-unfolding tab
-tab-below zero b f z h i = z
-tab-below (suc n) b f z h zero = h zero
-tab-below (suc n) b f z h (suc i) = tab-below n b (λ i. f (suc i)) z (λ i. h (suc i)) i
-
-words-fit : (s : List ℕ) → ((i : ℕ) → getD s i 0 < 256) → (o : ℕ) → AreWords (wordsFrom s o)
-unfolding wordsFrom
-words-fit s b o i = tab-below 52 (2 ^ 32) (λ j. littleAt s (o + 4 * j)) (omega arith)
-    (λ j. little-fits s b (o + 4 * j)) i
-
-long : (s : List ℕ) (o : ℕ) → length (wordsFrom s o) ≡ 52
-unfolding wordsFrom
-long s o = length-tab 52 (λ j. littleAt s (o + 4 * j))
-
 pub taken-fits : (s : List ℕ) → ((i : ℕ) → getD s i 0 < 256) → Fits (takenOf s)
 unfolding takenOf
 taken-fits s b =
     record {
-      pending = long s 0;
-      active = long s 208;
+      pending = words-long s 0;
+      active = words-long s 208;
       pending-words = words-fit s b 0;
       active-words = words-fit s b 208;
       frame = little-fits s b 416;

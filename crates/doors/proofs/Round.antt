@@ -3,7 +3,7 @@
 use mathlib.Core.Path.{_≡_, refl, sym, ap, ap₂, _∙_}
 use mathlib.Core.Bool.{Bool, true, false}
 use mathlib.Core.List.{List, [], _∷_}
-use Prim.Native.Nat.{ℕ, _+_, _*_, _%_, _^_, _≤_, _<_}
+use Prim.Native.Nat.{ℕ, _+_, _*_, _%_, _^_, _<_}
 use native.Mathlib.Omega.{arith}
 use borrow.Author.Tests.{eq-eqb}
 use lib.Dec.{ltb, eqb}
@@ -12,10 +12,10 @@ use Rattle.lists.specs.Choice.{pick}
 use Rattle.lists.specs.Little.{littleAt}
 use Rattle.lists.specs.Bytes.{littleByte, littleBytes}
 use Rattle.lists.specs.Tab.{tab}
-use Rattle.lists.proofs.Tab.{length-tab, is-tab}
+use Rattle.lists.proofs.Tab.{length-tab}
 use Rattle.lists.proofs.Little.{word-back}
 use Rattle.profiles.specs.Profile.{profileOf, oneBit}
-use Rattle.words.specs.Image.{wordsFrom}
+use Rattle.words.proofs.ImageLaws.{words-back}
 use Rattle.display.specs.declared.Display.{Display}
 use Rattle.display.specs.declared.Told.{Told}
 use Rattle.display.specs.State.{display, selectionOf}
@@ -23,21 +23,12 @@ use Rattle.display.specs.Doors.{stateLen, takenOf, lastWords, stateWords, state
 use Rattle.display.specs.Doors.{doorBuffer, doorRead}
 use Rattle.display.proofs.DoorLaws.{taken-all, in-pending, in-active, in-last}
 use Rattle.laws.specs.Small.{first}
-use Rattle.doors.specs.Rows.{AreWords, Fits, Holds, Ask, Typed, AllTyped, tellsOf, lentTo, leftBy, countBy}
+use Rattle.doors.specs.Rows.{Fits, Holds, Ask, Typed, AllTyped, tellsOf, lentTo, leftBy, countBy}
 use Rattle.doors.specs.Rows.{Seen, seenOf}
 use Rattle.doors.specs.Rows.{stateAfter, seenAfter, bytesAfter, seenByC}
 use Rattle.doors.proofs.Fits.{taken-fits, fresh-fits, call-fits}
 
 -- ---- what was put back, taken apart
-
--- 52 words from word k of a row on
-words-back : (w u : List ℕ) (k n o : ℕ) → o ≡ 4 * k → 4 * k + 208 ≤ n → length u ≡ 52 → AreWords u
-    → ((i : ℕ) → i < 52 → getD u i 0 ≡ getD w (k + i) 0) → u ≡ wordsFrom (tab n (littleBytes w)) o
-unfolding wordsFrom
-words-back w u k n o at b long h e =
-    is-tab u 52 (λ i. littleAt (tab n (littleBytes w)) (o + 4 * i)) long
-    (λ i lt. let q : getD w (k + i) 0 < 2 ^ 32 = rw (← e i lt) (h i) in
-    e i lt ∙ sym (word-back w (k + i) n (o + 4 * i) (omega arith) (omega arith) q))
 
 flag-back : (b : Bool) → b ≡ ltb 0 (pick b 1 0)
 flag-back true = refl

@@ -19,7 +19,8 @@ use Rattle.paint.specs.declared.Painted.{Painted}
 use Rattle.paint.specs.Painted.{answered}
 use Rattle.frames.specs.Frame.{sizeRefusal, outputRefusal, tablesRefusal, picturesRefusal, paintRefusal, refusalOf}
 use Rattle.frames.specs.Frame.{frameAfter}
-use Rattle.host.specs.Host.{wordsOf, profileFor, sceneIn, hostAnswer, hostOutput}
+use Rattle.words.specs.Image.{wordsOf}
+use Rattle.host.specs.Host.{profileFor, sceneIn, hostAnswer, hostOutput}
 
 -- ---- the cases
 

@@ -3,26 +3,23 @@ use Prim.Native.Nat.{ℕ}
 use mathlib.Core.List.{List}
 use lib.ListN.{length}
 use lib.Dec.{eqb}
-use Rattle.lists.specs.Choice.{pick, choose, orElse}
-use Rattle.answers.specs.Answers.{done, imageLength}
+use Rattle.lists.specs.Choice.{choose, orElse}
+use Rattle.answers.specs.Answers.{done}
 use Rattle.profiles.specs.declared.Profile.{Profile}
 use Rattle.profiles.specs.Profile.{profileOf}
 use Rattle.words.specs.Check.{checkOf}
-use Rattle.words.specs.Image.{wordsFrom}
+use Rattle.words.specs.Image.{wordsOf, imageRefusal}
 use Rattle.tables.specs.Geometry.{tablesLen}
 use Rattle.frames.specs.Scene.{Scene, sceneOf}
 use Rattle.frames.specs.Frame.{refusalOf, frameOf}
-
--- "The C host calls one exported entry with a 208-byte register image (52 little-endian words), frame
--- number, tables, pictures, output.": the words of an image
-abbrev pub wordsOf : List ℕ → List ℕ
-wordsOf image = wordsFrom image 0
 
 -- 02 K2: "the host entry goes by the table length": a glyph pixel has two bits where the tables are as long as those ask
 abbrev pub profileFor : ℕ → Profile
 profileFor tables = profileOf (eqb tables (tablesLen 2))
 
--- what it paints from: the image's words for the active ones, and the frame number as given
+-- "The C host calls one exported entry with a 208-byte register image (52 little-endian words), frame
+-- number, tables, pictures, output.": what it paints from, the image's words for the active ones, and the
+-- frame number as given
 abbrev pub sceneIn : List ℕ → ℕ → List ℕ → List ℕ → Scene
 sceneIn image frame tables pictures = sceneOf (profileFor (length tables)) (wordsOf image) frame tables pictures
 
@@ -32,7 +29,7 @@ sceneIn image frame tables pictures = sceneOf (profileFor (length tables)) (word
 -- (`host-tables`)
 unfoldable pub hostAnswer : List ℕ → ℕ → List ℕ → List ℕ → List ℕ → ℕ
 hostAnswer image frame tables pictures out =
-    orElse (pick (eqb (length image) 208) done imageLength)
+    orElse (imageRefusal image)
     (orElse (checkOf (wordsOf image)) (refusalOf (sceneIn image frame tables pictures) 0 8 out))
 
 -- "It paints a whole frame and answers the number; error bits are dropped, and every refusal leaves the

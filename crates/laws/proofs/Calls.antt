@@ -8,17 +8,19 @@ use borrow.Author.Tests.{eq-eqb}
 use lib.ListN.{length}
 use Rattle.answers.specs.Answers.{done}
 use Rattle.words.specs.Fields.{layerOf}
+use Rattle.words.specs.Change.{withOff}
+use Rattle.words.proofs.ChangeLaws.{kept-off}
 use Rattle.words.proofs.CheckLaws.{accepted-check}
 use Rattle.frames.specs.Scene.{sceneOf}
 use Rattle.frames.specs.Frame.{refusalOf, frameOf, frameAfter}
 use Rattle.display.specs.declared.Display.{Display}
 use Rattle.display.specs.State.{withActive}
 use Rattle.display.specs.Paint.{sceneWith, frameBytes}
-use Rattle.host.specs.Host.{wordsOf, profileFor, sceneIn, hostAnswer, hostOutput}
+use Rattle.words.specs.Image.{wordsOf}
+use Rattle.host.specs.Host.{profileFor, sceneIn, hostAnswer, hostOutput}
 use Rattle.laws.specs.Painting.{Ready, Framing, Hosting, OnScreen, channelIn, channelAt, Neighbours, exchanged}
-use Rattle.laws.specs.Painting.{OpaqueAt, OtherUnder, Clear, withOff, withoutPicture, without, AreBytes}
+use Rattle.laws.specs.Painting.{OpaqueAt, OtherUnder, Clear, withoutPicture, without, AreBytes}
 use Rattle.laws.specs.Painting.{Between}
-use Rattle.laws.proofs.LayerLaws.{withOff-word}
 use Rattle.laws.proofs.Pixels.{ready-done}
 use Rattle.laws.proofs.Exchange.{exchange, exchanged-word}
 use Rattle.laws.proofs.Opaque.{opaque-under}
@@ -95,7 +97,7 @@ invisible-frame d t p o n hn f clear =
     let e = withActive d (withOff (d .active) n) in
     let q = withoutPicture (d .active) n p in
     let x = invisible (sceneWith d t p) n hn (f .ready) clear in
-    let same = withOff-word (d .active) (f .ready .long) n 1 (omega arith) in
+    let same = kept-off (d .active) n hn (f .ready .long) .first 1 (omega arith) in
     let g : Framing e t q o = record { ready = x .0; output = rw same (f .output) } in
     (g, frame-bytes e t q o g ∙ x .1 ∙ sym (frame-bytes d t p o f))
 
@@ -108,7 +110,7 @@ unfolding without
 invisible-host image image′ frame t p o n hn f clear long e =
     let q = withoutPicture (wordsOf image) n p in
     let x = invisible (sceneIn image frame t p) n hn (f .ready) clear in
-    let same = withOff-word (wordsOf image) (f .ready .long) n 1 (omega arith) in
+    let same = kept-off (wordsOf image) n hn (f .ready .long) .first 1 (omega arith) in
     let g : Hosting image′ frame t q o =
     record { long = long; ready = rw e (x .0); output = rw (e, same) (f .output) } in (
       g,

@@ -57,7 +57,7 @@ module _ (w : List ℕ) where
   unfolding reservedAt
   tells-7 = tells-first 52 7 (reservedAt w) refl (λ i. refuses-but _ 7 (eqb-says _ 0))
 
-  tells-8 : Tells (screenOf w) 8 (EmptyScreen w)
+  pub tells-8 : Tells (screenOf w) 8 (EmptyScreen w)
   unfolding screenOf
   tells-8 =
       rw (screen-is (eqb (widthOf w) 0) (eqb (heightOf w) 0))

@@ -6,8 +6,9 @@ use mathlib.Core.List.{List, [], _∷_, _++_}
 use borrow.Author.Tests.{eq-eqb}
 use lib.ListN.{length}
 use Rattle.tables.specs.Geometry.{tablesLen}
+use Rattle.texts.specs.Lines.{linesFrom}
 use Rattle.line.specs.Line.{lineOf}
-use Rattle.lines.specs.Sheet.{linesFrom, linesOf, sheetOf, programOf}
+use Rattle.lines.specs.Sheet.{linesOf, sheetOf, programOf}
 use Rattle.laws.specs.Figures.{documentLine, documentReply}
 use Rattle.laws.specs.Small.{first, blank}
 use Rattle.laws.proofs.Small.{lineOpen, blank-long}

@@ -3,12 +3,12 @@ use mathlib.Core.Path.{_≡_, refl, sym, ap, _∙_}
 use mathlib.Core.Bool.{Bool, true, false}
 use mathlib.Core.Logic.{⊎-elim}
 use mathlib.Core.List.{List}
-use Prim.Native.Nat.{ℕ, _+_, _*_, _^_, _<_}
+use Prim.Native.Nat.{ℕ, _*_, _^_, _<_}
 use native.Mathlib.Omega.{arith}
 use borrow.Author.Tests.{eqb-true}
 use lib.Dec.{eqb}
 use lib.Bits.{bitOr}
-use lib.ListN.{length, getD, length-set}
+use lib.ListN.{length, getD}
 use Rattle.lists.specs.Choice.{pick, both}
 use Rattle.lists.proofs.Choice.{same-or, both-false}
 use Rattle.lists.proofs.Run.{run-cong, run-swap}
@@ -17,7 +17,9 @@ use Rattle.answers.specs.Answers.{done}
 use Rattle.words.specs.Check.{Plain, Accepted}
 use Rattle.words.specs.declared.fields.Layer.{Layer}
 use Rattle.words.specs.Fields.{layerOf}
+use Rattle.words.specs.Change.{withDepth}
 use Rattle.words.specs.Order.{here}
+use Rattle.words.proofs.ChangeLaws.{Kept, kept-depth, atDepth, withDepth-same}
 use Rattle.frames.specs.Scene.{Scene}
 use Rattle.frames.specs.Pixel.{covers, overAt}
 use Rattle.frames.specs.Band.{layerStep, depthStep, bandBy, missing, markAt, errorsOf}
@@ -27,9 +29,8 @@ use Rattle.frames.proofs.PixelLaws.{over-outside}
 use Rattle.display.specs.declared.Display.{Display}
 use Rattle.display.specs.State.{told, withActive}
 use Rattle.display.specs.Paint.{sceneWith, frameTold, frameBytes, paintTold}
-use Rattle.laws.specs.Painting.{Ready, IsLayer, Neighbours, withWords, withDepth, exchanged}
-use Rattle.laws.proofs.LayerLaws.{atDepth, Alike, depth-lt, withDepth-same, withDepth-other, withDepth-word}
-use Rattle.laws.proofs.LayerLaws.{depth-plain, depth-free, set-plain, accepted-alike}
+use Rattle.laws.specs.Painting.{Ready, IsLayer, Neighbours, withWords, exchanged}
+use Rattle.laws.proofs.LayerLaws.{Alike, depth-lt, accepted-alike}
 use Rattle.laws.proofs.Bands.{depthStep-only, depthStep-none}
 use Rattle.laws.proofs.Pixels.{ready-done, ready-alike, covers-not, over-alike, mark-alike, frame-same}
 
@@ -66,27 +67,30 @@ module _ (w : List ℕ) (i j : ℕ) (all : length w ≡ 52) (acc : Accepted w) (
   half : List ℕ
   half = withDepth w i (layerOf w j .depth)
 
+  half-kept : Kept i w half
+  unfolding half
+  half-kept = kept-depth w i (q .low .number) all (layerOf w j .depth) (depth-lt w j)
+
   long-half : length half ≡ 52
-  unfolding half withDepth
-  long-half = length-set w (4 + 6 * i) _ ∙ all
+  long-half = half-kept .long ∙ all
+
+  all-kept : Kept j half (exchanged w i j)
+  unfolding exchanged half
+  all-kept = kept-depth half j (q .high .number) long-half (layerOf w i .depth) (depth-lt w i)
 
   layer-i : layerOf (exchanged w i j) i ≡ atDepth (layerOf w i) (layerOf w j .depth)
   unfolding exchanged half
   layer-i =
-      withDepth-other half long-half j (layerOf w i .depth) i ij
-      ∙ withDepth-same w (all) i (layerOf w j .depth) (q .low .number) (depth-lt w j)
+      all-kept .other i ij ∙ withDepth-same w i (q .low .number) all (layerOf w j .depth) (depth-lt w j)
 
   layer-j : layerOf (exchanged w i j) j ≡ atDepth (layerOf w j) (layerOf w i .depth)
   unfolding exchanged half
   layer-j =
-      withDepth-same half long-half j (layerOf w i .depth) (q .high .number) (depth-lt w i)
-      ∙ ap (λ (l : Layer). atDepth l (layerOf w i .depth))
-      (withDepth-other w (all) i (layerOf w j .depth) j (λ e. ij (sym e)))
+      withDepth-same half j (q .high .number) long-half (layerOf w i .depth) (depth-lt w i)
+      ∙ ap (λ (l : Layer). atDepth l (layerOf w i .depth)) (half-kept .other j (λ e. ij (sym e)))
 
   layer-m : (m : ℕ) → (m ≡ i → ⊥) → (m ≡ j → ⊥) → layerOf (exchanged w i j) m ≡ layerOf w m
-  unfolding exchanged half
-  layer-m m a b =
-      withDepth-other half long-half j (layerOf w i .depth) m b ∙ withDepth-other w (all) i (layerOf w j .depth) m a
+  layer-m m a b = all-kept .other m b ∙ half-kept .other m a
 
   -- but for the depth every layer is what it was
   alike : (n : ℕ) → Alike (layerOf (exchanged w i j) n) (layerOf w n)
@@ -98,25 +102,12 @@ module _ (w : List ℕ) (i j : ℕ) (all : length w ≡ 52) (acc : Accepted w) (
       go (other a b) = ap (λ (l : Layer). atDepth l 0) (layer-m n a b)
 
   pub exchanged-word : (k : ℕ) → k < 4 → getD (exchanged w i j) k 0 ≡ getD w k 0
-  unfolding exchanged half
-  exchanged-word k h =
-      withDepth-word half long-half j (layerOf w i .depth) k h ∙ withDepth-word w (all) i (layerOf w j .depth) k h
+  exchanged-word k h = all-kept .first k h ∙ half-kept .first k h
 
   -- ---- they are accepted
 
-  plain-half : (k : ℕ) → k < 52 → Plain half k
-  unfolding half withDepth
-  plain-half =
-      set-plain w (4 + 6 * i) _ (all) (acc .plain)
-      (depth-plain _ (layerOf w j .depth) _ (depth-lt w j) (depth-free i (q .low .number))
-      (acc .plain (4 + 6 * i) (omega (arith, q .low .number))))
-
   plain : (k : ℕ) → k < 52 → Plain (exchanged w i j) k
-  unfolding exchanged withDepth half
-  plain =
-      set-plain half (4 + 6 * j) _ long-half plain-half
-      (depth-plain _ (layerOf w i .depth) _ (depth-lt w i) (depth-free j (q .high .number))
-      (plain-half (4 + 6 * j) (omega (arith, q .high .number))))
+  plain = all-kept .plain (half-kept .plain (acc .plain))
 
   on-same : (n : ℕ) → layerOf (exchanged w i j) n .on ≡ layerOf w n .on
   on-same n = ap (λ (l : Layer). l .on) (alike n)
@@ -153,8 +144,7 @@ module _ (w : List ℕ) (i j : ℕ) (all : length w ≡ 52) (acc : Accepted w) (
       go (other a b) (other a′ b′) = acc .apart n m hn hm on om (sym (of-m n a b) ∙ d ∙ of-m m a′ b′)
 
   long : length (exchanged w i j) ≡ 52
-  unfolding exchanged withDepth half
-  long = length-set half (4 + 6 * j) _ ∙ long-half
+  long = all-kept .long ∙ long-half
 
   pub exchange-accepted : Accepted (exchanged w i j)
   exchange-accepted =

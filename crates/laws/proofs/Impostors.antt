@@ -12,8 +12,11 @@ use Rattle.lists.specs.Call.{Meets}
 use Rattle.lists.specs.Little.{littleAt}
 use Rattle.lists.specs.Over.{over}
 use Rattle.lists.specs.Steps.{through, keep}
-use Rattle.lists.proofs.Call.{pair-is, tied-meets}
+use Rattle.lists.specs.Bytes.{littleByte, littleBytes}
+use Rattle.lists.specs.Tab.{tab}
+use Rattle.lists.proofs.Call.{pair-is, quadruple-is, tied-meets}
 use Rattle.answers.specs.Answers.{done, glyphBits}
+use Rattle.words.specs.Change.{withOff}
 use Rattle.words.specs.Order.{layersAt, layersBelow, orderOf, bandLayers}
 use Rattle.profiles.specs.Profile.{oneBit, twoBits}
 use Rattle.tables.specs.Geometry.{tablesLen, bankLen, kindAt}
@@ -29,6 +32,9 @@ use Rattle.display.proofs.Unique.{newCall, writeCall, selectCall, toggleCall, s
 use Rattle.display.proofs.Unique.{frameCall, new-tie, write-tie, select-tie, toggle-tie, start-tie, put-tie, fill-tie}
 use Rattle.display.proofs.Unique.{paint-tie, frame-tie, lineCall, line-tie, putRunCall, writeRunCall, put-run-tie, write-run-tie}
 use Rattle.host.proofs.Unique.{hostCall, host-tie}
+use Rattle.repair.specs.Image.{imageOf}
+use Rattle.repair.proofs.Unique.{mendCall, mend-tie}
+use Rattle.repair.proofs.Worked.{crooked, straight, crooked-mended, lone, lone-left}
 use Rattle.line.specs.Sizes.{mostPrinted}
 use Rattle.line.specs.Line.{zeros}
 use Rattle.lines.specs.Sizes.{outLen}
@@ -412,3 +418,42 @@ module _ (last : ℕ → ℕ → ℕ → ℕ) where
   pub feed-ground-last : Feeds dim (lineBy rule outLen dim) → Feeds bright (lineBy rule outLen bright) → ⊥
   feed-ground-last m n =
       not-printed outLen (small.feeds-is dim small.feed-dim m) (small.feeds-is bright small.feed-bright n)
+
+-- ---- of mending, on an image that is refused
+
+-- what meets the contract on it
+mended : {list : List ℕ} {n : ℕ} {o : ℕ × List ℕ × List ℕ × ℕ} → Meets mendCall (imageOf crooked, list, n) o
+    → (o .0 ≡ done) × ((o .1 ≡ imageOf straight) × (o .3 ≡ 2))
+mended m =
+    let q = quadruple-is .1 (tied-meets mend-tie m) in
+    (q .0 ∙ crooked-mended .0, (q .1 .0 ∙ crooked-mended .1 .0, q .1 .1 .1 ∙ crooked-mended .1 .1 .1))
+
+module _ (list : List ℕ) (n : ℕ) where
+  -- whatever it leaves
+  pub mend-down : (answer : ℕ) (image list′ : List ℕ) (count : ℕ) → TurnsDown answer
+      → Meets mendCall (imageOf crooked, list, n) (answer, image, list′, count) → ⊥
+  mend-down answer image list′ count down m = down (mended m .0)
+
+  pub mend-untouched : Meets mendCall (imageOf crooked, list, n) (done, imageOf crooked, list, n) → ⊥
+  unfolding imageOf littleBytes littleByte tab
+  mend-untouched m = differ 24 (λ (z : 5 ≡ 4). omega arith) (mended m .1 .0)
+
+  -- one image for both of two
+  pub mend-fixed : (fixed list′ list″ : List ℕ) (count count′ : ℕ)
+      → Meets mendCall (imageOf crooked, list, n) (done, fixed, list′, count)
+      → Meets mendCall (imageOf lone, list, n) (done, fixed, list″, count′) → ⊥
+  unfolding imageOf littleBytes littleByte tab
+  mend-fixed fixed list′ list″ count count′ m k =
+      differ 40 (λ (z : 1 ≡ 0). omega arith)
+      (sym (mended m .1 .0) ∙ quadruple-is .1 (tied-meets mend-tie k) .1 .0 ∙ lone-left)
+
+  -- one that switches every layer off, which a start takes too
+  pub mend-all-off : (list′ : List ℕ) (count : ℕ)
+      → Meets mendCall (imageOf crooked, list, n) (done, imageOf (withOff (withOff crooked 0) 1), list′, count) → ⊥
+  unfolding imageOf littleBytes littleByte tab withOff
+  mend-all-off list′ count m = differ 16 (λ (z : 0 ≡ 1). omega arith) (mended m .1 .0)
+
+  -- a count of anything but the two words
+  pub mend-miscounted : (image list′ : List ℕ) (count : ℕ) → (count ≡ 2 → ⊥)
+      → Meets mendCall (imageOf crooked, list, n) (done, image, list′, count) → ⊥
+  mend-miscounted image list′ count ne m = ne (mended m .1 .1)

@@ -6,22 +6,23 @@ use mathlib.Core.Logic.{⊎-elim}
 use mathlib.Core.List.{List}
 use Prim.Native.Nat.{ℕ, _+_, _*_, _≤_, _<_}
 use native.Mathlib.Omega.{arith}
-use lib.ListN.{length, getD, length-set}
+use lib.ListN.{length, getD}
 use Rattle.lists.proofs.Choice.{same-or, split, pick-cong, pick-keeps, both-left}
 use Rattle.lists.proofs.Cut.{length-cut, cut-low, cut-high}
 use Rattle.lists.proofs.Sum.{sum-cong, sum-room, sum-without}
 use Rattle.words.specs.declared.fields.Layer.{Layer}
 use Rattle.words.specs.Fields.{layerOf}
-use Rattle.words.specs.Check.{reservedBits, Plain, Accepted}
+use Rattle.words.specs.Check.{Plain, Accepted}
+use Rattle.words.specs.Change.{withOff}
 use Rattle.words.specs.Order.{here}
 use Rattle.words.specs.Pictures.{pictureLen, pictureLenAt, pictureStart, picturesLen}
+use Rattle.words.proofs.ChangeLaws.{Kept, kept-off, switchedOff, atDepth, withOff-same}
 use Rattle.frames.specs.Scene.{Scene}
 use Rattle.profiles.specs.Profile.{bitsOf}
 use Rattle.frames.specs.Pixel.{bankBytes, colourIndex, graphicsAt, pictureAt, ownAt, overAt}
 use Rattle.frames.specs.Band.{layerStep}
 use Rattle.frames.specs.Frame.{frameOf}
-use Rattle.laws.specs.Painting.{Ready, Clear, withOff, without}
-use Rattle.laws.proofs.LayerLaws.{atDepth, withOff-same, withOff-other, withOff-word, off-plain, set-plain}
+use Rattle.laws.specs.Painting.{Ready, Clear, without}
 use Rattle.laws.proofs.LayerLaws.{accepted-alike}
 use Rattle.laws.proofs.Bands.{bandBy-cong}
 use Rattle.laws.proofs.Pixels.{picture-room, over-clear, over-same, frame-same}
@@ -38,29 +39,31 @@ module _ (s : Scene) (n : ℕ) (ready : Ready s) (hn : n < 8) where
 
   -- ---- the words without the layer are accepted
 
+  words-kept : Kept n w w′
+  words-kept = kept-off w n hn (ready .long)
+
+  layer-n : layerOf w′ n ≡ switchedOff (layerOf w n)
+  layer-n = withOff-same w n hn (ready .long)
+
   off-n : layerOf w′ n .on ≡ true → ⊥
-  off-n e = true≢false (sym e ∙ ap (λ (l : Layer). l .on) (withOff-same w (ready .long) n hn))
+  off-n e = true≢false (sym e ∙ ap (λ (l : Layer). l .on) layer-n)
 
   other-m : (m : ℕ) → (m ≡ n → ⊥) → layerOf w′ m ≡ layerOf w m
-  other-m m ne = withOff-other w (ready .long) n m ne
+  other-m m ne = words-kept .other m ne
 
   -- a layer that is on afterwards is another, and was on
   was : (m : ℕ) → layerOf w′ m .on ≡ true → layerOf w′ m ≡ layerOf w m
   was m o = ⊎-elim (λ (e : m ≡ n). absurd (off-n (rw e at o))) (λ (ne : m ≡ n → ⊥). other-m m ne) (same-or m n)
 
   plain : (k : ℕ) → k < 52 → Plain w′ k
-  unfolding withOff
-  plain =
-      set-plain w (4 + 6 * n) _ (ready .long) (acc .plain)
-      (off-plain (getD w (4 + 6 * n) 0) (getD reservedBits (4 + 6 * n) 0) (acc .plain (4 + 6 * n) (omega arith)))
+  plain = words-kept .plain (acc .plain)
 
   long : length w′ ≡ 52
-  unfolding withOff
-  long = length-set w (4 + 6 * n) _ ∙ ready .long
+  long = words-kept .long ∙ ready .long
 
   acc′ : Accepted w′
   acc′ =
-      accepted-alike w w′ acc plain (withOff-word w (ready .long) n 1 (omega arith))
+      accepted-alike w w′ acc plain (words-kept .first 1 (omega arith))
       (λ m o. ap (λ (l : Layer). atDepth l 0) (was m o))
       (λ m k hm hk om ok om′ ok′ d. acc .apart m k hm hk om ok
       (sym (ap (λ (l : Layer). l .depth) (was m om′)) ∙ d ∙ ap (λ (l : Layer). l .depth) (was k ok′)))
@@ -69,7 +72,7 @@ module _ (s : Scene) (n : ℕ) (ready : Ready s) (hn : n < 8) where
 
   len-n : pictureLenAt w′ n ≡ 0
   unfolding pictureLenAt pictureLen
-  len-n = ap pictureLen (withOff-same w (ready .long) n hn)
+  len-n = ap pictureLen layer-n
 
   len-m : (m : ℕ) → (m ≡ n → ⊥) → pictureLenAt w′ m ≡ pictureLenAt w m
   unfolding pictureLenAt
@@ -113,7 +116,7 @@ module _ (s : Scene) (n : ℕ) (ready : Ready s) (hn : n < 8) where
   bankBytes-same : (kind m : ℕ) → bankBytes (bitsOf (s .profile)) w′ (s .tables) m kind
       ≡ bankBytes (bitsOf (s .profile)) w (s .tables) m kind
   unfolding bankBytes
-  bankBytes-same kind m = rw (withOff-word w (ready .long) n 3 (omega arith))
+  bankBytes-same kind m = rw (words-kept .first 3 (omega arith))
 
   own-same : (m u v c : ℕ) → (m ≡ n → ⊥) → layerOf w m .on ≡ true → u < layerOf w m .width → v < layerOf w m .height
       → c < 4
@@ -137,7 +140,7 @@ module _ (s : Scene) (n : ℕ) (ready : Ready s) (hn : n < 8) where
 
   gone : (step : ℕ → ℕ → ℕ) (d p : ℕ) → layerStep w′ step d n p ≡ p
   unfolding layerStep
-  gone step d p = rw (withOff-same w (ready .long) n hn)
+  gone step d p = rw layer-n
 
   module _ (clear : Clear s n) where
     nothing : (x y c d p : ℕ) → layerStep w (overAt s y x c) d n p ≡ p
@@ -158,13 +161,13 @@ module _ (s : Scene) (n : ℕ) (ready : Ready s) (hn : n < 8) where
       record {
         long = long;
         accepted = acc′;
-        shown = rw (withOff-word w (ready .long) n 0 (omega arith)) (ready .shown);
+        shown = rw (words-kept .first 0 (omega arith)) (ready .shown);
         tables = ready .tables;
         pictures =
             let c = length-cut (s .pictures) (pictureStart w n) (pictureLenAt w n) fits in
             omega (arith, c, total, ready .pictures);
       },
-      frame-same s (without s n) (λ k h. withOff-word w (ready .long) n k (omega arith))
+      frame-same s (without s n) (λ k h. words-kept .first k (omega arith))
           (λ x y c p hc. bandBy-cong w′ w (overAt (without s n) y x c) (overAt s y x c) 0 8 p
           (λ d m r hm. step-same x y c d m r hc)),
     )

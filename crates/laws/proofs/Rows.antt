@@ -11,7 +11,9 @@ use lib.Dec.{eqb, ltb, leb}
 use lib.ListN.{length, set}
 use lib.Bits.{bitOr}
 use Rattle.lists.specs.Choice.{pick, both, orElse, choose}
+use Rattle.lists.specs.Over.{over}
 use Rattle.lists.proofs.Choice.{split, same-or}
+use Rattle.lists.proofs.Over.{over-none}
 use Rattle.profiles.specs.Profile.{profileOf, oneBit, bitsOf}
 use Rattle.words.specs.Fields.{updateOf, widthOf, heightOf}
 use Rattle.words.specs.Check.{checkOf, Accepted}
@@ -31,16 +33,20 @@ use Rattle.display.specs.Put.{putAnswer, putState, putOf, putTables}
 use Rattle.display.specs.Reached.{Sound}
 use Rattle.display.specs.Paint.{sceneWith, fillTold, fillBytes, paintTold, paintBytes, frameTold, frameBytes}
 use Rattle.display.specs.Paint.{lineTold, lineBytes}
-use Rattle.host.specs.Host.{wordsOf, profileFor, sceneIn, hostAnswer, hostOutput}
+use Rattle.words.specs.Image.{wordsOf, imageRefusal}
+use Rattle.host.specs.Host.{profileFor, sceneIn, hostAnswer, hostOutput}
 use Rattle.host.proofs.HostLaws.{host-tables}
+use Rattle.repair.specs.Steps.{mendOf}
+use Rattle.repair.specs.Changes.{changesOf, changedOf}
+use Rattle.repair.specs.Image.{imageOf, mendAnswer, mendImage, mendList, mendCount}
 use Rattle.laws.proofs.Refusals.{Says, says-itself, eqb-says, ltb-says, leb-says, both-says, either-says, Tells}
 use Rattle.laws.proofs.Refusals.{refuses, refuses-but, tells-as, over-zero, Misses, other, misses-or, or-first}
 use Rattle.laws.proofs.Refusals.{or-later, given-when, passed-when, own, past}
 use Rattle.laws.specs.Rows.{Row, StartRow, PutRow, FillRow, PaintRow, FrameRow, HostRow, ReservedBit, Case8}
 use Rattle.laws.specs.Rows.{Case9, Case10, Case11, Updates, NoBand, NoSize, WrongOutput, WrongTables, WrongBoth}
 use Rattle.laws.specs.Rows.{WrongPictures, Case6, Case14, BuffersFit, NotSelected, BankActive, BankFull}
-use Rattle.laws.specs.Rows.{OneOrTwo, WrongImage, NoLine, WrongLine, LineRow}
-use Rattle.laws.proofs.CheckRows.{check-7, check-8, check-9, check-10, check-11, check-0, check-misses}
+use Rattle.laws.specs.Rows.{OneOrTwo, WrongImage, EmptyScreen, NoLine, WrongLine, LineRow, MendRow}
+use Rattle.laws.proofs.CheckRows.{tells-8, check-7, check-8, check-9, check-10, check-11, check-0, check-misses}
 
 -- ---- new, write, select and toggle
 
@@ -531,10 +537,11 @@ module _ (d : Display) (tables : List ℕ) (byte : ℕ) where
 
 -- ---- the host entry: "Order 16, 7, 8, 9 and 10, 11, 13, 6, 14."
 
-module _ (image : List ℕ) (frame : ℕ) (tables pictures out : List ℕ) where
-  tells-16 : Tells (pick (eqb (length image) 208) 0 16) 16 (WrongImage image)
-  tells-16 = refuses-but _ 16 (eqb-says (length image) 208)
+-- of mending too
+tells-16 : (image : List ℕ) → Tells (imageRefusal image) 16 (WrongImage image)
+tells-16 image = refuses-but _ 16 (eqb-says (length image) 208)
 
+module _ (image : List ℕ) (frame : ℕ) (tables pictures out : List ℕ) where
   -- the bits that the tables' length stands for
   abbrev bits : ℕ
   bits = bitsOf (profileFor (length tables))
@@ -555,7 +562,7 @@ module _ (image : List ℕ) (frame : ℕ) (tables pictures out : List ℕ) where
       → Misses (lent bits (wordsOf image) out tables pictures) r
       → (checkOf (wordsOf image) ≡ r) ↔ C → HostRow image frame tables pictures out r ((¬ WrongImage image) × C)
   unfolding hostAnswer paintRefusal
-  host-checked r nz n m f = host-row r nz (past refl _ r n tells-16 (or-first (checkOf (wordsOf image)) _ r nz m f))
+  host-checked r nz n m f = host-row r nz (past refl _ r n (tells-16 image) (or-first (checkOf (wordsOf image)) _ r nz m f))
 
   -- 13, 6, 14 and 0: accepted words have a size
   sized : (w : List ℕ) → Accepted w → ¬ NoSize w
@@ -567,7 +574,7 @@ module _ (image : List ℕ) (frame : ℕ) (tables pictures out : List ℕ) where
       → (lent bits (wordsOf image) out tables pictures ≡ r) ↔ ((¬ NoSize (wordsOf image)) × Q)
       → (hostAnswer image frame tables pictures out ≡ r) ↔ ((¬ WrongImage image) × (Accepted (wordsOf image) × Q))
   unfolding hostAnswer paintRefusal
-  host-lent r n m f = past refl _ r n tells-16 (
+  host-lent r n m f = past refl _ r n (tells-16 image) (
     λ q. let p = or-later (checkOf (wordsOf image)) _ r m (check-0 (wordsOf image)) f .0 q in (p .0, p .1 .1),
     λ p. or-later (checkOf (wordsOf image)) _ r m (check-0 (wordsOf image)) f .1
         (p .0, (sized (wordsOf image) (p .0), p .1)),
@@ -575,7 +582,7 @@ module _ (image : List ℕ) (frame : ℕ) (tables pictures out : List ℕ) where
 
   pub host-16 : HostRow image frame tables pictures out 16 (WrongImage image)
   unfolding hostAnswer paintRefusal
-  host-16 = host-row 16 refl (own refl _ tells-16 (misses-or (checkOf (wordsOf image)) _ 16
+  host-16 = host-row 16 refl (own refl _ (tells-16 image) (misses-or (checkOf (wordsOf image)) _ 16
       (check-misses (wordsOf image) 16 refl refl refl refl refl)
       (lent-misses bits (wordsOf image) out tables pictures _ tells-both 16 refl refl refl refl)))
 
@@ -631,3 +638,33 @@ module _ (image : List ℕ) (frame : ℕ) (tables pictures out : List ℕ) where
   host-0 =
       let f = host-lent 0 refl (λ z. z) (lent-0 bits (wordsOf image) out tables pictures _ tells-both) in
       record { only = f .0; when = f .1; leaves = λ q. rw (eq-eqb _ 0 q) }
+
+-- ---- mending: 02 K4, "16 first; 8, which has no repair"
+
+module _ (image list : List ℕ) where
+  mend-row : (r : ℕ) {C : Type 0} → eqb r 0 ≡ false → (mendAnswer image ≡ r) ↔ C → MendRow image list r C
+  unfolding mendImage mendList mendCount
+  mend-row r nz f =
+      record {
+        only = f .0;
+        when = f .1;
+        leaves = λ q. let e = ne-eqb (mendAnswer image) 0 (over-zero nz q) in
+            (rw e, (rw e (sym (over-none list)), rw e));
+      }
+
+  pub mend-16 : MendRow image list 16 (WrongImage image)
+  unfolding mendAnswer
+  mend-16 = mend-row 16 refl (own refl _ (tells-16 image) (other 16 refl (tells-8 (wordsOf image))))
+
+  pub mend-8 : MendRow image list 8 ((¬ WrongImage image) × EmptyScreen (wordsOf image))
+  unfolding mendAnswer
+  mend-8 = mend-row 8 refl (past refl _ 8 refl (tells-16 image) (given-when refl (tells-8 (wordsOf image))))
+
+  pub mend-0 : Row (mendAnswer image) 0 ((¬ WrongImage image) × (¬ EmptyScreen (wordsOf image)))
+      ((mendImage image ≡ imageOf (mendOf (wordsOf image)))
+      × ((over (mendList image) list ≡ over (changesOf (wordsOf image) (mendOf (wordsOf image))) list)
+      × (mendCount image ≡ changedOf (wordsOf image) (mendOf (wordsOf image)))))
+  unfolding mendAnswer mendImage mendList mendCount
+  mend-0 =
+      let f = past refl _ 0 refl (tells-16 image) (passed-when refl (tells-8 (wordsOf image))) in
+      record { only = f .0; when = f .1; leaves = λ q. (rw q, (rw q, rw q)) }

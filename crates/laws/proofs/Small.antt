@@ -34,14 +34,15 @@ use Rattle.words.specs.Image.{wordsFrom}
 use Rattle.host.specs.Host as host
 use Rattle.host.proofs.Unique.{host-tie}
 use Rattle.hex.specs.Hex.{valueOf, isHex, bytesIn, digitOf, digitsOf}
+use Rattle.texts.specs.Lines.{endsIn, lineIn}
+use Rattle.texts.specs.Replies.{replyText}
 use Rattle.steps.specs.Form.{countAt, wordAt, pastLoads, writesPlace, picturePlace, endPlace, isFormed}
 use Rattle.steps.specs.Steps.{stepOf, runOf, loadsAt, writesAt, stepsOf}
 use Rattle.line.specs.Line.{startedOf, zeros, lentOf, framedOf, paintedOf, headOf, replyOf, closedOf, workOf, doneOf}
-use Rattle.line.specs.Line.{outcomeOf, replyText, lineOf}
+use Rattle.line.specs.Line.{outcomeOf, lineOf}
 use Rattle.line.specs.Sizes.{mostPrinted}
 use Rattle.lines.specs.Sizes.{outLen}
-use Rattle.lines.specs.Blocks.{endsIn, lineIn, fedRun, lastRun, begun, nextRun, turnOf, goesOn, turnsOf, feedOf}
-use Rattle.lines.specs.Blocks.{finishOf}
+use Rattle.lines.specs.Blocks.{fedRun, lastRun, begun, nextRun, turnOf, goesOn, turnsOf, feedOf, finishOf}
 use Rattle.lines.proofs.Unique.{run-line-tie, finish-tie, feed-tie}
 use Rattle.laws.specs.Small.{Write, writtenTo, onePixel, grey, night, written, started, sizeless, selecting}
 use Rattle.laws.specs.Small.{first, blank, filled, white, clear, dim, bright, image, line, page, block, slate, gathered}

@@ -33,13 +33,14 @@ use Rattle.frames.specs.Pixel.{bankBytes, colourIndex, graphicsAt, pictureAt, o
 use Rattle.frames.specs.Band.{layerStep, depthStep, bandBy, bandByte, bandOf}
 use Rattle.frames.specs.Frame.{fillByte, fillOf, frameOf}
 use Rattle.frames.proofs.PixelLaws.{covers-covered}
-use Rattle.laws.specs.Painting.{Ready, IsLayer, OnScreen, channelAt, withWords, Neighbours, withDepth, exchanged}
-use Rattle.laws.specs.Painting.{OpaqueAt, OtherUnder, Clear, withOff, without, AreBytes, leastStep}
+use Rattle.words.specs.Change.{withOff, withDepth}
+use Rattle.laws.specs.Painting.{Ready, IsLayer, OnScreen, channelAt, withWords, Neighbours, exchanged}
+use Rattle.laws.specs.Painting.{OpaqueAt, OtherUnder, Clear, without, AreBytes, leastStep}
 use Rattle.laws.specs.Painting.{greatestStep, leastAt, greatestAt, Between}
 use Rattle.laws.specs.Worked.{dot, words, brown, red, apart, wideApart, shared, lit, sand, ink, none, boxIn}
 use Rattle.laws.specs.Worked.{sceneOn, beside, wideBeside, halves, covered, relaid, fadedAt, relaidAt, veiled}
 use Rattle.laws.specs.Worked.{drawnScene}
-use Rattle.laws.proofs.LayerLaws.{layer-other}
+use Rattle.words.proofs.ChangeLaws.{layer-other}
 use Rattle.laws.proofs.Exchange.{exchange}
 use Rattle.laws.proofs.Opaque.{opaque-under}
 use Rattle.laws.proofs.Invisible.{invisible}

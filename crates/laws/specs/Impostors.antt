@@ -25,10 +25,11 @@ use Rattle.display.specs.declared.Told.{Told}
 use Rattle.display.specs.State.{told, withErrors, startOf}
 use Rattle.display.specs.Paint.{sceneWith}
 use Rattle.hex.specs.Hex.{bytesIn}
+use Rattle.texts.specs.Replies.{replyText}
 use Rattle.steps.specs.Form.{picturePlace}
 use Rattle.steps.specs.Steps.{Midway, midway, runOf, stepsOf}
 use Rattle.line.specs.Sizes.{mostPrinted}
-use Rattle.line.specs.Line.{startedOf, framedOf, replyOf, replyText}
+use Rattle.line.specs.Line.{startedOf, framedOf, replyOf}
 use Rattle.lines.specs.Sizes.{outLen}
 use Rattle.laws.specs.Small.{first, blank, filled, white, line, page, scene, hostScene, Paints, Frames, Hosts, Prints}
 use Rattle.laws.specs.Small.{Scans, Finishes, Feeds}

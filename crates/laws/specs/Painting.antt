@@ -1,10 +1,10 @@
 -- What the laws of painting speak of: demand 3, "for accepted settings, display on, 'layer' = an
 -- enabled one". Assumes nothing.
-use Prim.Native.Nat.{ℕ, _+_, _*_, _/_, _%_, _≤_, _<_, min, max}
+use Prim.Native.Nat.{ℕ, _+_, _*_, _≤_, _<_, min, max}
 use mathlib.Core.Path.{_≡_}
 use mathlib.Core.Bool.{Bool, true}
 use mathlib.Core.List.{List}
-use lib.ListN.{getD, set, length}
+use lib.ListN.{getD, length}
 use Rattle.lists.specs.Choice.{pick, both}
 use Rattle.lists.specs.Runs.{run}
 use Rattle.lists.specs.Cut.{cut}
@@ -13,6 +13,8 @@ use Rattle.profiles.specs.Profile.{bitsOf}
 use Rattle.words.specs.declared.fields.Layer.{Layer}
 use Rattle.words.specs.Fields.{shownOf, widthOf, heightOf, groundOf, layerOf}
 use Rattle.words.specs.Check.{Accepted}
+use Rattle.words.specs.Image.{wordsOf}
+use Rattle.words.specs.Change.{withOff, withDepth}
 use Rattle.words.specs.Pictures.{pictureLenAt, pictureStart, picturesLen}
 use Rattle.tables.specs.Geometry.{tablesLen}
 use Rattle.frames.specs.Scene.{Scene, sceneOf}
@@ -20,7 +22,7 @@ use Rattle.frames.specs.Pixel.{bankBytes, ownAt, alphaAt, covers, acrossOf, dow
 use Rattle.frames.specs.Frame.{frameLen, frameOf}
 use Rattle.display.specs.declared.Display.{Display}
 use Rattle.display.specs.Paint.{sceneWith}
-use Rattle.host.specs.Host.{wordsOf, sceneIn}
+use Rattle.host.specs.Host.{sceneIn}
 
 -- ---- what every law asks and speaks of
 
@@ -85,14 +87,6 @@ pub record Neighbours (w : List ℕ) (i j : ℕ) : Type 0 where
       → layerOf w m .depth < layerOf w j .depth → ⊥
   pub apart : (x y : ℕ) → covers (layerOf w i) y x ≡ true → covers (layerOf w j) y x ≡ true → ⊥
 
--- word 4+6n with "depth 10:8" replaced by d
-abbrev pub depthWord : ℕ → ℕ → ℕ
-depthWord v d = v / 2048 * 2048 + d * 256 + v % 256
-
--- layer n at depth d
-unfoldable pub withDepth : List ℕ → ℕ → ℕ → List ℕ
-withDepth w n d = set w (4 + 6 * n) (depthWord (getD w (4 + 6 * n) 0) d)
-
 -- layers i and j each at the other's depth
 unfoldable pub exchanged : List ℕ → ℕ → ℕ → List ℕ
 exchanged w i j = withDepth (withDepth w i (layerOf w j .depth)) j (layerOf w i .depth)
@@ -148,10 +142,6 @@ pub record OtherUnder (s t : Scene) (d : ℕ) : Type 0 where
 -- the alpha of layer n is 0 in each of its rows v and columns u
 abbrev pub Clear : Scene → ℕ → Type 0
 Clear s n = (v u : ℕ) → v < layerOf (s .words) n .height → u < layerOf (s .words) n .width → alphaAt s n v u ≡ 0
-
--- the words with bit 0 of word 4+6n cleared
-unfoldable pub withOff : List ℕ → ℕ → List ℕ
-withOff w n = set w (4 + 6 * n) (getD w (4 + 6 * n) 0 / 2 * 2)
 
 -- the pictures without those bytes of them that are layer n's (a graphics layer has none)
 abbrev pub withoutPicture : List ℕ → ℕ → List ℕ → List ℕ

@@ -7,6 +7,7 @@ use mathlib.Core.Logic.{_⊎_}
 use mathlib.Core.List.{List}
 use lib.Bits.{bitAnd}
 use lib.ListN.{getD, length}
+use Rattle.lists.specs.Over.{over}
 use Rattle.mix.specs.Pixel.{pixelLen}
 use Rattle.words.specs.Fields.{updateOf, widthOf, heightOf, layerOf}
 use Rattle.words.specs.Check.{reservedBits}
@@ -18,6 +19,7 @@ use Rattle.display.specs.State.{bitsIn, stepped, startOf}
 use Rattle.display.specs.Put.{putOf, putTables}
 use Rattle.display.specs.Paint.{fillTold, fillBytes, paintTold, paintBytes, frameTold, frameBytes, lineTold, lineBytes}
 use Rattle.host.specs.Host.{hostAnswer, hostOutput}
+use Rattle.repair.specs.Image.{mendAnswer, mendImage, mendList, mendCount}
 
 -- a row of the table: "No.", "Given exactly when", "Leaves"
 pub record Row (answer number : ℕ) (Case Left : Type 0) : Type 0 where
@@ -193,3 +195,9 @@ LineRow d y tables pictures out number Case =
 abbrev pub HostRow : List ℕ → ℕ → List ℕ → List ℕ → List ℕ → ℕ → Type 0 → Type 0
 HostRow image frame tables pictures out number Case =
     Row (hostAnswer image frame tables pictures out) number Case (hostOutput image frame tables pictures out ≡ out)
+
+-- mending, of the image and the list: 02 K4, "Refusals, with the image kept and no list"
+abbrev pub MendRow : List ℕ → List ℕ → ℕ → Type 0 → Type 0
+MendRow image list number Case =
+    Row (mendAnswer image) number Case
+    ((mendImage image ≡ image) × ((over (mendList image) list ≡ list) × (mendCount image ≡ 0)))

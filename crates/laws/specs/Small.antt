@@ -18,9 +18,11 @@ use Rattle.display.proofs.Unique.{paintCall, frameCall, lineCall}
 use Rattle.host.specs.Host.{sceneIn, hostOutput}
 use Rattle.host.proofs.Unique.{hostCall}
 use Rattle.hex.specs.Hex.{digitsOf}
+use Rattle.texts.specs.Lines.{lineFeed}
+use Rattle.texts.specs.Replies.{twoBytes, fourBytes, replyText}
 use Rattle.line.specs.declared.Printed.{Printed}
-use Rattle.line.specs.Sizes.{mostPrinted, lineFeed}
-use Rattle.line.specs.Line.{zeros, twoBytes, fourBytes, headOf, replyText, lineOf}
+use Rattle.line.specs.Sizes.{mostPrinted}
+use Rattle.line.specs.Line.{zeros, headOf, lineOf}
 use Rattle.lines.specs.declared.blocks.Fed.{Fed}
 use Rattle.lines.specs.declared.blocks.Going.{Going}
 use Rattle.lines.specs.Sizes.{mostKept, outLen}

@@ -5,7 +5,7 @@ use mathlib.Core.List.{List, _∷_}
 use native.Mathlib.Omega.{arith}
 use borrow.Author.Tests.{leb-true}
 use lib.Dec.{eqb, leb}
-use lib.ListN.{length, length-append, length-replicate}
+use lib.ListN.{length, length-replicate}
 use Rattle.lists.specs.Choice.{both}
 use Rattle.lists.proofs.Choice.{pick-keeps, choose-keeps}
 use Rattle.answers.specs.Answers.{done}
@@ -15,10 +15,10 @@ use Rattle.display.specs.declared.Display.{Display}
 use Rattle.display.specs.declared.Told.{Told}
 use Rattle.display.proofs.Calls.{length-frameBytes}
 use Rattle.hex.specs.Hex.{isHex, bytesIn}
-use Rattle.hex.proofs.HexLaws.{length-digitsOf}
+use Rattle.texts.proofs.PrintLaws.{length-replyText}
 use Rattle.steps.specs.Form.{isFormed}
 use Rattle.line.specs.Sizes.{mostDigits, mostLent, mostReply, mostPrinted}
-use Rattle.line.specs.Line.{Outcome, Ran, lentFor, zeros, lentOf, paintedOf, replyOf, replyText, closedOf}
+use Rattle.line.specs.Line.{Outcome, Ran, lentFor, zeros, lentOf, paintedOf, replyOf, closedOf}
 use Rattle.line.specs.Line.{workOf, doneOf, outcomeOf, lineOf}
 
 -- the bytes of a frame, those before them, two digits for each, and a line feed
@@ -55,5 +55,5 @@ abbrev pub Fits : Ran → Type 0
 Fits r = length (r .printed) ≤ mostPrinted
 
 pub line-le : (d : Display) (t x : List ℕ) → Fits (lineOf d t x)
-unfolding lineOf replyText
-line-le d t x = simp length-append (omega (arith, length-digitsOf (outcomeOf d t x .reply), reply-le d t x))
+unfolding lineOf
+line-le d t x = omega (arith, length-replyText (outcomeOf d t x .reply), reply-le d t x)

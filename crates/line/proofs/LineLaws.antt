@@ -5,11 +5,10 @@ use mathlib.Core.Bool.{Bool, true, false}
 use mathlib.Core.List.{List, [], _∷_, _++_}
 use native.Mathlib.Omega.{arith}
 use native.Mathlib.Nat.{le-trans, mul-le-mul-left, mul-le-mul-right, le-of-suc-le-suc, not-suc-le-zero}
-use lib.ListN.{length, take, drop, set, length-drop, length-append, length-take, length-replicate}
+use lib.ListN.{length, take, drop, length-drop, length-append, length-take, length-replicate}
 use lib.Seq.{length-take-le, take-all, take-at, drop-at, take-append-add}
 use borrow.Author.Tests.{eq-eqb, ne-eqb, le-leb, lt-leb}
 use Rattle.lists.specs.Over.{over}
-use Rattle.lists.proofs.Over.{over-set}
 use Rattle.answers.specs.Answers.{done}
 use Rattle.mix.specs.Pixel.{pixelLen}
 use Rattle.words.specs.Fields.{widthOf, heightOf}
@@ -17,17 +16,18 @@ use Rattle.display.specs.declared.Display.{Display}
 use Rattle.display.specs.declared.Told.{Told}
 use Rattle.display.specs.State.{told, startOf}
 use Rattle.display.specs.Paint.{frameTold, frameBytes}
-use Rattle.hex.specs.Hex.{isHex, bytesIn, digitsOf}
-use Rattle.hex.proofs.HexLaws.{length-digitsOf}
+use Rattle.hex.specs.Hex.{isHex, bytesIn}
+use Rattle.texts.specs.Replies.{badForm, replyText}
+use Rattle.texts.proofs.PrintLaws.{length-replyText}
 use Rattle.steps.specs.declared.form.Parts.{Parts}
 use Rattle.steps.specs.Form.{picturePlace, isFormed}
 use Rattle.steps.specs.Steps.{midway, runOf, stepsOf}
 use Rattle.steps.specs.Engine.Parts.{partsOf}
 use Rattle.line.specs.declared.Replied.{Replied}
 use Rattle.line.specs.declared.Printed.{Printed}
-use Rattle.line.specs.Sizes.{mostDigits, mostLent, headLen, mostReply, mostPrinted, lineFeed, badForm}
+use Rattle.line.specs.Sizes.{mostDigits, mostLent, headLen, mostReply, mostPrinted}
 use Rattle.line.specs.Line.{startedOf, zeros, lentFor, lentOf, framedOf, paintedOf, headOf, replyOf, badOf}
-use Rattle.line.specs.Line.{closedOf, workOf, doneOf, outcomeOf, replyText, lineOf, printedOf}
+use Rattle.line.specs.Line.{closedOf, workOf, doneOf, outcomeOf, lineOf, printedOf}
 use Rattle.line.specs.Engine.Replies.{Leaves}
 
 -- ---- start
@@ -235,20 +235,6 @@ module _ (d : Display) (t x : List ℕ) where
       let g : isHex x ≡ true = sym e ∙ z in rw (le-leb (length x) mostDigits h, g) (rw eb at q)
 
 -- ---- the printed line
-
-pub text-printed : (l o₀ o : List ℕ) → length l ≤ mostReply → mostPrinted ≤ length o₀ → o ≡ over (digitsOf l) o₀
-    → (2 * length l + 1 ≡ length (replyText l)) × (set o (2 * length l) lineFeed ≡ over (replyText l) o₀)
-unfolding replyText
-text-printed l o₀ o h e q =
-    let k : 2 * length l ≡ length (digitsOf l) = sym (length-digitsOf l) in (
-      simp length-append (omega arith),
-      ap (λ (z : List ℕ). set z (2 * length l) lineFeed) q
-          ∙ over-set (digitsOf l) o₀ (2 * length l) lineFeed k (omega arith),
-    )
-
-length-replyText : (l : List ℕ) → length (replyText l) ≡ 2 * length l + 1
-unfolding replyText
-length-replyText l = simp length-append (omega (arith, length-digitsOf l))
 
 pub line-is : (d : Display) (t x t′ u o₀ o : List ℕ) (r : Replied) (k : ℕ) → Leaves (outcomeOf d t x) r t′ u
     → k ≡ length (replyText (take (r .count) u)) → o ≡ over (replyText (take (r .count) u)) o₀

@@ -1,5 +1,5 @@
 -- What a line leaves and prints: 01 "Sheet program and host entry". Assumes nothing.
-use Prim.Native.Nat.{ℕ, _+_, _*_, _/_, _%_}
+use Prim.Native.Nat.{ℕ, _+_, _*_}
 use mathlib.Core.List.{List, [], _∷_, _++_}
 use lib.ListN.{length, drop, replicate}
 use lib.Dec.{eqb, leb}
@@ -11,11 +11,12 @@ use Rattle.display.specs.declared.Display.{Display}
 use Rattle.display.specs.declared.Told.{Told}
 use Rattle.display.specs.State.{told, startOf}
 use Rattle.display.specs.Paint.{frameTold, frameBytes}
-use Rattle.hex.specs.Hex.{isHex, bytesIn, digitsOf}
+use Rattle.hex.specs.Hex.{isHex, bytesIn}
+use Rattle.texts.specs.Replies.{twoBytes, fourBytes, badForm, replyText}
 use Rattle.steps.specs.Form.{picturePlace, isFormed}
 use Rattle.steps.specs.Steps.{Midway, midway, runOf, stepsOf}
 use Rattle.line.specs.declared.Printed.{Printed}
-use Rattle.line.specs.Sizes.{mostDigits, mostLent, lineFeed, badForm}
+use Rattle.line.specs.Sizes.{mostDigits, mostLent}
 
 -- "Loads, writes, start, ..". "After a refusal the line's other steps are left out, except the start,
 -- done once for each well formed line." "A refusal prints the first number met."
@@ -42,14 +43,6 @@ framedOf r t p = choose (eqb (r .answer) done) (frameTold (r .state) t p (lentOf
 -- the frame's bytes
 unfoldable pub paintedOf : Told → List ℕ → List ℕ → List ℕ
 paintedOf r t p = frameBytes (r .state) t p (lentOf (r .state))
-
--- a number of four digits as bytes
-abbrev pub twoBytes : ℕ → List ℕ
-twoBytes n = n / 256 % 256 ∷ n % 256 ∷ []
-
--- a number of eight digits as bytes
-abbrev pub fourBytes : ℕ → List ℕ
-fourBytes n = n / 16777216 % 256 ∷ n / 65536 % 256 ∷ n / 256 % 256 ∷ n % 256 ∷ []
 
 -- "after 00 also error word (8), width (4), height (4), bytes": of the state that the frame leaves
 abbrev pub headOf : Display → List ℕ
@@ -89,10 +82,6 @@ doneOf d t b = choose (isFormed b) (workOf d t b) (badOf d t)
 -- a line's text, "at most 8,192 digits"
 unfoldable pub outcomeOf : Display → List ℕ → List ℕ → Outcome
 outcomeOf d t text = choose (both (leb (length text) mostDigits) (isHex text)) (doneOf d t (bytesIn text)) (badOf d t)
-
--- the text of a reply: its digits, and the line feed that ends it
-unfoldable pub replyText : List ℕ → List ℕ
-replyText reply = digitsOf reply ++ lineFeed ∷ []
 
 -- what a run leaves, state and tables, and the text that it prints
 pub record Ran : Type 0 where

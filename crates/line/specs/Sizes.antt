@@ -24,11 +24,3 @@ mostReply = headLen + mostLent
 -- two digits for each of them, and the line feed
 abbrev pub mostPrinted : ℕ
 mostPrinted = 2 * mostReply + 1
-
--- "Lines end with a line feed"
-abbrev pub lineFeed : ℕ
-lineFeed = 10
-
--- "prints FE"
-abbrev pub badForm : ℕ
-badForm = 254

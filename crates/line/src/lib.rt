@@ -1,6 +1,5 @@
 // A line of a sheet in, a line out: read whole, then done, then printed. Its reply is made as bytes,
 // and the frame is painted where it stands in them, so that one place prints.
-use crate::sizes::BAD_FORM;
 use crate::sizes::HEAD_LEN;
 use crate::sizes::MOST_BYTES;
 use crate::sizes::MOST_LENT;
@@ -10,6 +9,8 @@ use display::Display;
 use display::Told;
 use mix::PIXEL_LEN;
 use steps::form;
+use texts::BAD_FORM;
+use texts::print_line;
 ghost use mathlib.Core.Path.{_≡_};
 ghost use mathlib.Core.List.{[], _∷_};
 ghost use Prim.Native.Nat.{_≤_};
@@ -19,12 +20,11 @@ ghost use Rattle.answers.specs.Answers.{done};
 ghost use Rattle.words.specs.Fields.{widthOf, heightOf};
 ghost use Rattle.line.specs.Sizes.{mostBytes, mostLent, mostReply, mostPrinted};
 ghost use Rattle.line.specs.Line.{startedOf, zeros, lentFor, headOf, framedOf, paintedOf, replyOf, doneOf};
-ghost use Rattle.line.specs.Line.{outcomeOf, replyText, lineOf, printedOf};
+ghost use Rattle.line.specs.Line.{outcomeOf, lineOf, printedOf};
 ghost use Rattle.line.specs.Engine.Replies.{Leaves};
 
 mod sizes;
 
-pub use sizes::LINE_FEED;
 pub use sizes::MOST_DIGITS;
 pub use sizes::MOST_PRINTED;
 
@@ -178,18 +178,6 @@ fn answer(state: Display, tables: &mut [u8], text: &[u8], reply: &mut [u8]) -> R
     work(state, tables, &b[..n], reply)
 }
 
-// A reply's digits and its line feed, to the front of `out`; how many bytes they are.
-fn print(reply: &[u8], out: &mut [u8]) -> usize
-    requires { ⌜ (length (now reply) ≤ mostReply) × (mostPrinted ≤ length (now out)) ⌝ }
-    ensures { λ r. ⌜ (r ≡ length (replyText (now (reply .entry))))
-        × (now (out .exit) ≡ over (replyText (now (reply .entry))) (now (out .entry))) ⌝ }
-{
-    let n = 2 * reply.len();
-    hex::print_bytes(reply, out);
-    out[n] = LINE_FEED;
-    n + 1
-}
-
 // `lines::run_line` on slices.
 pub fn run_in(state: Display, tables: &mut [u8], text: &[u8], out: &mut [u8]) -> Printed
     requires { ⌜ mostPrinted ≤ length (now out) ⌝ }
@@ -203,7 +191,7 @@ pub fn run_in(state: Display, tables: &mut [u8], text: &[u8], out: &mut [u8]) ->
     let r = answer(state, tables, text, &mut reply);
     let n = r.count;
     let after = r.state;
-    let count = print(&reply[..n], out);
+    let count = print_line(&reply[..n], out);
     Printed {
         state: after,
         count,

@@ -17,9 +17,3 @@ pub const MOST_REPLY: usize = HEAD_LEN + MOST_LENT;
 
 // Two digits for each of them, and the line feed.
 pub const MOST_PRINTED: usize = 2 * MOST_REPLY + 1;
-
-// What ends a line, read or printed.
-pub const LINE_FEED: u8 = 10;
-
-// Printed FE.
-pub const BAD_FORM: u8 = 254;

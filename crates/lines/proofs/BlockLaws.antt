@@ -1,179 +1,75 @@
--- A line gathered from blocks and lines fed one after the other, as the code leaves them. Assumes
--- nothing.
+-- Lines gathered from blocks and fed one after the other, as the code leaves them. Assumes nothing.
 use Prim.Native.Nat.{ℕ, zero, suc, _+_, _-_, _<_, _≤_, min}
 use mathlib.Core.Path.{_≡_, refl, sym, ap, _∙_}
 use mathlib.Core.Bool.{Bool, true, false, false≢true}
-use mathlib.Core.Logic.{⊎-elim}
-use mathlib.Core.List.{List, [], _++_, append-assoc, append-nil}
+use mathlib.Core.List.{List, _++_}
 use native.Mathlib.Omega.{arith}
-use lib.ListN.{length, take, drop, length-drop, length-append, drop-of-length-le}
-use lib.Seq.{length-take-le, take-all, take-length, take-append-add, drop-at, drop-drop}
+use lib.ListN.{length, take, drop, length-drop}
+use lib.Seq.{length-take-le, drop-at, drop-drop}
 use lib.Dec.{ltb, leb}
 use borrow.Author.Tests.{lt-ltb, le-ltb, le-leb, eq-eqb, ne-eqb, ltb-true, leb-true}
-use Rattle.bytes.specs.Bytes.{indexOf, slice}
+use Rattle.bytes.specs.Bytes.{indexOf}
 use Rattle.lists.specs.Over.{over}
-use Rattle.lists.proofs.Choice.{split, both-left, both-right}
+use Rattle.lists.proofs.Choice.{both-left, both-right}
 use Rattle.lists.proofs.Over.{over-none, take-over}
+use Rattle.texts.specs.declared.Gathered.{Gathered}
+use Rattle.texts.specs.Lines.{lineFeed, endsIn, lineIn, usedIn}
+use Rattle.texts.proofs.GatherLaws.{held-front, GatheredAs, usedIn-bounds, rest-is}
+use Rattle.texts.proofs.PrintLaws.{front-long, printed-behind}
 use Rattle.line.specs.declared.Printed.{Printed}
-use Rattle.line.specs.Sizes.{mostPrinted, lineFeed}
+use Rattle.line.specs.Sizes.{mostPrinted}
 use Rattle.line.specs.Line.{Ran, lineOf, printedOf}
 use Rattle.lines.specs.declared.blocks.Going.{Going}
 use Rattle.lines.specs.declared.blocks.Fed.{Fed}
 use Rattle.lines.specs.Sizes.{mostKept, outLen}
-use Rattle.lines.specs.Blocks.{keptOf, endsIn, lineIn, usedIn, fedRun, lastRun, lineBegun, Batch, nextRun}
-use Rattle.lines.specs.Blocks.{turnOf, goesOn, turnsOf, feedOf, fedOf, finishOf}
+use Rattle.lines.specs.Blocks.{fedRun, lastRun, lineBegun, Batch, nextRun, turnOf, goesOn, turnsOf}
+use Rattle.lines.specs.Blocks.{feedOf, fedOf, finishOf}
 use Rattle.lines.specs.Engine.Turns.{lineRun, lineFed, batchAt}
 
--- ---- `keep`: n bytes are held, m of the part p have room behind them in s
+-- ---- `feed_line`: r is what has been gathered from the bytes l into the text u, which was s
 
-module _ (s p : List ℕ) (held n m : ℕ) (long : length s ≡ mostKept) (en : n ≡ min held mostKept)
-    (em : m ≡ min (length p) (mostKept - n)) where
-  pub held-long : length (take n s) ≡ n
-  held-long = length-take-le n s (omega arith)
-
-  pub part-long : length (take m p) ≡ m
-  part-long = length-take-le m p (omega arith)
-
-  held-is : take held s ≡ take n s
-  held-is =
-      ⊎-elim
-      (λ (h : held < mostKept). ap (λ (k : ℕ). take k s) (let q : held ≡ n = omega arith in q))
-      (λ (h : mostKept ≤ held). take-all held s (omega arith) ∙ sym (take-all n s (omega arith)))
-      (split held mostKept)
-
-  part-is : take (mostKept - n) p ≡ take m p
-  part-is =
-      ⊎-elim
-      (λ (h : length p < mostKept - n). take-all (mostKept - n) p (omega arith) ∙ sym (take-all m p (omega arith)))
-      (λ (h : mostKept - n ≤ length p). ap (λ (k : ℕ). take k p) (let q : mostKept - n ≡ m = omega arith in q))
-      (split (length p) (mostKept - n))
-
-  kept-is : keptOf (take held s) p ≡ take n s ++ take m p
-  kept-is =
-      let q : mostKept ≡ length (take n s) + (mostKept - n) = omega (arith, held-long) in
-      ap (λ (l : List ℕ). take mostKept (l ++ p)) held-is
-      ∙ ap (λ (k : ℕ). take k (take n s ++ p)) q
-      ∙ take-append-add (take n s) p (mostKept - n)
-      ∙ ap (λ (l : List ℕ). take n s ++ l) part-is
-
-  pub kept-long : n + m ≡ length (keptOf (take held s) p)
-  kept-long = sym (ap length kept-is ∙ simp length-append (omega (arith, held-long, part-long)))
-
-  -- what is copied has room
-  pub kept-room : length (take m p) ≤ length (take (length s - n) (drop n s))
-  kept-room =
-      let a : length (drop n s) ≡ length s - n = length-drop n s in
-      omega (arith, part-long, length-take-le (length s - n) (drop n s) (omega arith))
-
-  pub kept-over : (c : List ℕ) → c ≡ take (length (take m p)) (take m p) ++ drop (length (take m p))
-      (take (length s - n) (drop n s))
-      → take n s ++ (c ++ drop (length s - n) (drop n s)) ≡ over (keptOf (take held s) p) s
-  unfolding over
-  kept-over c e =
-      let a : length (drop n s) ≤ length s - n = simp length-drop (omega arith) in
-      let none : drop (length s - n) (drop n s) ≡ [] = drop-of-length-le (drop n s) a in
-      let back : c ≡ take m p ++ drop (n + m) s =
-      e ∙ ap (λ (l : List ℕ). l ++ drop (length (take m p)) (take (length s - n) (drop n s))) (take-length (take m p))
-      ∙ ap (λ (l : List ℕ). take m p ++ drop (length (take m p)) l) (take-all (length s - n) (drop n s) a)
-      ∙ ap (λ (k : ℕ). take m p ++ drop k (drop n s)) part-long
-      ∙ ap (λ (l : List ℕ). take m p ++ l) (drop-drop m n s) in
-      ap (λ (l : List ℕ). take n s ++ (c ++ l)) none
-      ∙ ap (λ (l : List ℕ). take n s ++ l) (append-nil c ∙ back)
-      ∙ sym (append-assoc (take n s) (take m p) (drop (n + m) s))
-      ∙ ap (λ (k : ℕ). (take n s ++ take m p) ++ drop k s) kept-long
-      ∙ ap (λ (l : List ℕ). l ++ drop (length (keptOf (take held s) p)) s) (sym kept-is)
-
--- ---- `feed_line`: the line feed is found at `at`, and what has come of the line is kept in u
-
-module _ (g : Going) (t l s u : List ℕ) (at n : ℕ) (ea : at ≡ 0 + indexOf lineFeed (slice 0 (length l) l))
-    (en : n ≡ length (keptOf (lineBegun g s) (take at l))) (eu : u ≡ over (keptOf (lineBegun g s) (take at l)) s) where
-  at-is : at ≡ indexOf lineFeed l
-  unfolding slice
-  at-is =
-      let q : 0 + indexOf lineFeed (slice 0 (length l) l) ≡ indexOf lineFeed (slice 0 (length l) l) = omega arith in
-      ea ∙ q ∙ ap (indexOf lineFeed) (take-length l)
-
-  line-in : keptOf (lineBegun g s) (take at l) ≡ lineIn (lineBegun g s) l
-  unfolding lineIn
-  line-in = ap (λ (k : ℕ). keptOf (lineBegun g s) (take k l)) at-is
-
-  text-is : u ≡ over (lineIn (lineBegun g s) l) s
-  text-is = eu ∙ ap (λ (z : List ℕ). over z s) line-in
-
-  front-is : take n u ≡ lineIn (lineBegun g s) l
-  front-is = ap (take n) eu ∙ take-over (keptOf (lineBegun g s) (take at l)) s n en ∙ line-in
-
+module _ (g : Going) (t l s u : List ℕ) (r : Gathered) (k : GatheredAs mostKept (lineBegun g s) l s u r) where
   abbrev Feeds : Fed → List ℕ → List ℕ → List ℕ → Type 0
-  Feeds r t′ o₀ o =
-      (r ≡ lineFed g t s l) × ((t′ ≡ lineRun g t s l .tables)
-      × ((u ≡ over (lineIn (lineBegun g s) l) s)
-      × ((o ≡ over (lineRun g t s l .printed) o₀) × (r .count ≤ mostPrinted))))
+  Feeds f t′ o₀ o =
+      (f ≡ lineFed g t s l) × ((t′ ≡ lineRun g t s l .tables)
+      × ((u ≡ over (lineIn mostKept (lineBegun g s) l) s)
+      × ((o ≡ over (lineRun g t s l .printed) o₀) × (f .count ≤ mostPrinted))))
 
-  pub feed-ended : (r : Printed) (t′ o₀ o : List ℕ) → at < length l → r ≡ printedOf (lineOf (g .state) t (take n u))
-      → t′ ≡ lineOf (g .state) t (take n u) .tables → o ≡ over (lineOf (g .state) t (take n u) .printed) o₀
-      → r .count ≤ mostPrinted
-      → Feeds (record { going = record { state = r .state; held = 0 }; used = at + 1; count = r .count }) t′ o₀ o
-  unfolding fedRun endsIn
-  feed-ended r t′ o₀ o h er et eo fits =
-      let k : indexOf lineFeed l < length l = omega (arith, at-is) in
-      let w : lineOf (g .state) t (take n u) ≡ lineOf (g .state) t (lineIn (lineBegun g s) l) =
-      ap (lineOf (g .state) t) front-is in
-      simp (lt-ltb (indexOf lineFeed l) (length l) k) (
-        rw (er, w, at-is) refl,
-        (et ∙ ap (λ (q : Ran). q .tables) w, (text-is, (eo ∙ ap (λ (q : Ran). over (q .printed) o₀) w, fits))),
+  pub feed-ended : (p : Printed) (t′ o₀ o : List ℕ) → r .ended ≡ true
+      → p ≡ printedOf (lineOf (g .state) t (take (r .kept) u))
+      → t′ ≡ lineOf (g .state) t (take (r .kept) u) .tables
+      → o ≡ over (lineOf (g .state) t (take (r .kept) u) .printed) o₀ → p .count ≤ mostPrinted
+      → Feeds (record { going = record { state = p .state; held = 0 }; used = r .used; count = p .count }) t′ o₀ o
+  unfolding fedRun
+  feed-ended p t′ o₀ o h ep et eo fits =
+      let z : endsIn l ≡ true = sym (k .ended) ∙ h in
+      let w : lineOf (g .state) t (take (r .kept) u) ≡ lineOf (g .state) t (lineIn mostKept (lineBegun g s) l) =
+      ap (lineOf (g .state) t) (k .line) in
+      let n : r .used ≡ indexOf lineFeed l + 1 = k .used ∙ rw z refl in
+      rw z (
+        rw (ep, w, n) refl,
+        (et ∙ ap (λ (q : Ran). q .tables) w, (k .text, (eo ∙ ap (λ (q : Ran). over (q .printed) o₀) w, fits))),
       )
 
-  pub feed-open : (o : List ℕ) → length l ≤ at → at ≤ length l
-      → Feeds (record { going = record { state = g .state; held = n }; used = at; count = 0 }) t o o
-  unfolding fedRun endsIn
-  feed-open o h k =
-      let m : length l ≤ indexOf lineFeed l = omega (arith, at-is) in
-      let q : at ≡ length l = omega arith in
-      simp (le-ltb (indexOf lineFeed l) (length l) m) (
-        rw (en, line-in, q) refl,
-        (refl, (text-is, (over-none o, omega arith))),
+  pub feed-open : (o : List ℕ) → r .ended ≡ false
+      → Feeds (record { going = record { state = g .state; held = r .kept }; used = r .used; count = 0 }) t o o
+  unfolding fedRun
+  feed-open o h =
+      let z : endsIn l ≡ false = sym (k .ended) ∙ h in
+      let n : r .used ≡ length l = k .used ∙ rw z refl in
+      rw z (
+        rw (k .kept, n) refl,
+        (refl, (k .text, (over-none o, omega arith))),
       )
 
 -- ---- `turn`
-
-pub usedIn-bounds : (l : List ℕ) → 0 < length l → (0 < usedIn l) × (usedIn l ≤ length l)
-unfolding endsIn
-usedIn-bounds l h =
-    ⊎-elim
-    (λ (g : indexOf lineFeed l < length l). rw (lt-ltb (indexOf lineFeed l) (length l) g) (omega arith, omega arith))
-    (λ (g : length l ≤ indexOf lineFeed l). rw (le-ltb (indexOf lineFeed l) (length l) g) (h, omega arith))
-    (split (indexOf lineFeed l) (length l))
-
--- the rest of a list, as it is lent
-pub rest-is : (l : List ℕ) (n : ℕ) → take (length l - n) (drop n l) ≡ drop n l
-rest-is l n = take-all (length l - n) (drop n l) (simp length-drop (omega arith))
-
--- q printed behind the first n bytes of o
-module _ (o q : List ℕ) (n : ℕ) (room : n + length q ≤ length o) where
-  front-long : length (take n o ++ q) ≡ n + length q
-  front-long =
-      let a : length (take n o) ≡ n = length-take-le n o (omega arith) in
-      simp length-append (omega arith)
-
-  printed-behind : take n o ++ (over q (take (length o - n) (drop n o)) ++ drop (length o - n) (drop n o))
-      ≡ over (take n o ++ q) o
-  unfolding over
-  printed-behind =
-      let a : length (drop n o) ≤ length o - n = simp length-drop (omega arith) in
-      let none : drop (length o - n) (drop n o) ≡ [] = drop-of-length-le (drop n o) a in
-      ap (λ (z : List ℕ). take n o ++ ((q ++ drop (length q) (take (length o - n) (drop n o))) ++ z)) none
-      ∙ ap (λ (z : List ℕ). take n o ++ z) (append-nil (q ++ drop (length q) (take (length o - n) (drop n o))))
-      ∙ ap (λ (z : List ℕ). take n o ++ (q ++ drop (length q) z)) (rest-is o n)
-      ∙ ap (λ (z : List ℕ). take n o ++ (q ++ z)) (drop-drop (length q) n o)
-      ∙ sym (append-assoc (take n o) q (drop (n + length q) o))
-      ∙ ap (λ (k : ℕ). (take n o ++ q) ++ drop k o) (sym front-long)
 
 -- f is what `feed_line` answers on the rest of the block l, and p the rest of the output
 module _ (c f : Fed) (t u l o t′ u′ p : List ℕ) (inside : c .used < length l) (room : c .count + mostPrinted ≤ outLen)
     (long : length o ≡ outLen)
     (ef : f ≡ lineFed (c .going) t u (take (length l - c .used) (drop (c .used) l)))
     (et : t′ ≡ lineRun (c .going) t u (take (length l - c .used) (drop (c .used) l)) .tables)
-    (eu : u′ ≡ over (lineIn (lineBegun (c .going) u) (take (length l - c .used) (drop (c .used) l))) u)
+    (eu : u′ ≡ over (lineIn mostKept (lineBegun (c .going) u) (take (length l - c .used) (drop (c .used) l))) u)
     (ep : p ≡ over (lineRun (c .going) t u (take (length l - c .used) (drop (c .used) l)) .printed)
     (take (length o - c .count) (drop (c .count) o)))
     (small : f .count ≤ mostPrinted) where
@@ -335,7 +231,7 @@ Finishes q r t o₀ o = (r ≡ printedOf q) × ((t ≡ q .tables) × ((o ≡ ove
 
 module _ (g : Going) (t u : List ℕ) (n : ℕ) (long : length u ≡ mostKept) (en : n ≡ min (g .held) mostKept) where
   begun-is : take n u ≡ lineBegun g u
-  begun-is = sym (held-is u [] (g .held) n 0 long en (omega arith))
+  begun-is = held-front u (g .held) n (omega arith)
 
   begun-long : length (lineBegun g u) ≡ n
   begun-long = ap length (sym begun-is) ∙ length-take-le n u (omega arith)

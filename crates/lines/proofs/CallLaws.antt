@@ -9,11 +9,12 @@ use native.Mathlib.Omega.{arith}
 use lib.ListN.{length, drop, length-drop}
 use borrow.Author.Tests.{lt-ltb, le-ltb}
 use Rattle.lists.proofs.Choice.{split, choose-keeps}
+use Rattle.texts.proofs.GatherLaws.{usedIn-bounds}
 use Rattle.steps.proofs.FormLaws.{one-left}
 use Rattle.lines.specs.declared.blocks.Going.{Going}
 use Rattle.lines.specs.Blocks.{Batch, turnOf, goesOn, turnsOf, feedOf}
 use Rattle.lines.specs.Calls.{againOf, callsOf, blockOf}
-use Rattle.lines.proofs.BlockLaws.{usedIn-bounds, goesOn-inside, turnsOf-more}
+use Rattle.lines.proofs.BlockLaws.{goesOn-inside, turnsOf-more}
 
 -- the parts of a batch; what is printed is written and not held
 abbrev batch : Going → List ℕ → List ℕ → ℕ → List ℕ → Batch

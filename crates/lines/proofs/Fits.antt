@@ -7,11 +7,11 @@ use lib.Dec.{eqb}
 use lib.ListN.{length, length-append}
 use Rattle.lists.proofs.Choice.{choose-keeps}
 use Rattle.display.specs.declared.Display.{Display}
+use Rattle.texts.specs.Lines.{endsIn, lineIn}
 use Rattle.line.proofs.Fits.{Fits, line-le}
 use Rattle.lines.specs.declared.blocks.Going.{Going}
-use Rattle.lines.specs.Sizes.{outLen}
-use Rattle.lines.specs.Blocks.{endsIn, lineIn, fedRun, lastRun, Batch, openOf, restOf, nextRun, turnOf}
-use Rattle.lines.specs.Blocks.{goesOn, turnsOf, feedOf}
+use Rattle.lines.specs.Sizes.{mostKept, outLen}
+use Rattle.lines.specs.Blocks.{fedRun, lastRun, Batch, openOf, restOf, nextRun, turnOf, goesOn, turnsOf, feedOf}
 use Rattle.lines.proofs.BlockLaws.{goesOn-inside}
 use Rattle.lines.proofs.CallLaws.{turnsOf-used}
 
@@ -19,7 +19,7 @@ use Rattle.lines.proofs.CallLaws.{turnsOf-used}
 
 fed-le : (d : Display) (t x l : List ℕ) → Fits (fedRun d t x l)
 unfolding fedRun
-fed-le d t x l = choose-keeps Fits (endsIn l) _ _ (λ e. line-le d t (lineIn x l)) (λ e. omega arith)
+fed-le d t x l = choose-keeps Fits (endsIn l) _ _ (λ e. line-le d t (lineIn mostKept x l)) (λ e. omega arith)
 
 pub last-le : (d : Display) (t x : List ℕ) → Fits (lastRun d t x)
 unfolding lastRun

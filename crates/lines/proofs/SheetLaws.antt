@@ -6,24 +6,23 @@ use mathlib.Core.Bool.{Bool, true, false}
 use mathlib.Core.Logic.{⊎-elim}
 use mathlib.Core.List.{List, [], _∷_, _++_, append-assoc, append-nil}
 use native.Mathlib.Omega.{arith}
-use native.Mathlib.Nat.{not-suc-le-zero}
 use lib.ListN.{length, take, drop}
-use lib.Seq.{take-all, take-append-le, take-take, length-take-le, drop-length, drop-drop, append-snoc}
+use lib.Seq.{take-all, length-take-le, drop-length, drop-drop}
 use lib.Dec.{ltb, eqb}
-use borrow.Author.Tests.{ne-eqb, lt-ltb, le-ltb, lt-leb}
+use borrow.Author.Tests.{lt-leb}
 use Rattle.lists.specs.Choice.{choose}
-use Rattle.bytes.specs.Bytes.{indexOf, indexAfter}
-use Rattle.lists.specs.Over.{over}
 use Rattle.lists.proofs.Choice.{split, choose-keeps}
-use Rattle.lists.proofs.Over.{take-over}
 use Rattle.display.specs.declared.Display.{Display}
-use Rattle.line.specs.Sizes.{mostDigits, lineFeed}
+use Rattle.texts.specs.Lines.{lineFeed, linesFrom, endsIn, lineIn, heldIn, usedIn}
+use Rattle.texts.proofs.GatherLaws.{heldIn-is}
+use Rattle.texts.proofs.CutLaws.{keptLines, gather-left, linesFrom-cut}
+use Rattle.line.specs.Sizes.{mostDigits}
 use Rattle.line.specs.Line.{badOf, outcomeOf, Ran, idle, lineOf}
 use Rattle.lines.specs.declared.blocks.Going.{Going}
 use Rattle.lines.specs.Sizes.{mostKept}
-use Rattle.lines.specs.Sheet.{linesFrom, after, linesOf, sheetOf, firstTables, programOf}
-use Rattle.lines.specs.Blocks.{endsIn, lineIn, heldIn, usedIn, fedRun, lastRun, begun, lineBegun, Batch, openOf}
-use Rattle.lines.specs.Blocks.{restOf, nextRun, turnOf, goesOn, turnsOf, feedOf}
+use Rattle.lines.specs.Sheet.{after, linesOf, sheetOf, firstTables, programOf}
+use Rattle.lines.specs.Blocks.{fedRun, lastRun, begun, lineBegun, Batch, openOf, restOf, nextRun, turnOf, goesOn}
+use Rattle.lines.specs.Blocks.{turnsOf, feedOf}
 use Rattle.lines.specs.Calls.{Course, againOf, callsOf, blockOf}
 use Rattle.lines.proofs.CallLaws.{blockOf-used}
 
@@ -46,114 +45,39 @@ lineOf-short : (d : Display) (t x : List ℕ) → lineOf d t (take mostKept x) �
 unfolding lineOf
 lineOf-short d t x = rw (outcomeOf-short d t x) refl
 
--- one more byte
-short-snoc : (x : List ℕ) (y : ℕ) → take mostKept (take mostKept x ++ y ∷ []) ≡ take mostKept (x ++ y ∷ [])
-short-snoc x y =
-    ⊎-elim
-    (λ (h : length x < mostKept). ap (λ (l : List ℕ). take mostKept (l ++ y ∷ [])) (take-all mostKept x (omega arith)))
-    (λ (h : mostKept ≤ length x).
-    let l : length (take mostKept x) ≡ mostKept = length-take-le mostKept x h in
-    take-append-le mostKept (take mostKept x) (y ∷ []) (omega arith) ∙ take-take mostKept mostKept x (omega arith)
-    ∙ sym (take-append-le mostKept x (y ∷ []) h))
-    (split (length x) mostKept)
-
-short-none : (x : List ℕ) → eqb (length (take mostKept x)) 0 ≡ eqb (length x) 0
-short-none x =
-    ⊎-elim
-    (λ (h : length x < mostKept). ap (λ (l : List ℕ). eqb (length l) 0) (take-all mostKept x (omega arith)))
-    (λ (h : mostKept ≤ length x).
-    let l : length (take mostKept x) ≡ mostKept = length-take-le mostKept x h in
-    ne-eqb (length (take mostKept x)) 0 (λ (q : length (take mostKept x) ≡ 0). omega arith)
-    ∙ sym (ne-eqb (length x) 0 (λ (q : length x ≡ 0). omega arith)))
-    (split (length x) mostKept)
-
-first-short : (d : Display) (t x : List ℕ) (rest : List (List ℕ))
-    → linesOf d t (take mostKept x ∷ rest) ≡ linesOf d t (x ∷ rest)
+linesOf-kept : (d : Display) (t : List ℕ) (lines : List (List ℕ))
+    → linesOf d t (keptLines mostKept lines) ≡ linesOf d t lines
 unfolding linesOf
-first-short d t x rest = rw (lineOf-short d t x) refl
-
-pub linesFrom-short : (d : Display) (t x bytes : List ℕ)
-    → linesOf d t (linesFrom (take mostKept x) bytes) ≡ linesOf d t (linesFrom x bytes)
-unfolding linesFrom
-linesFrom-short d t x [] = rw (short-none x) (go (eqb (length x) 0))
-  where
-    go : (z : Bool) → linesOf d t (choose z [] (take mostKept x ∷ [])) ≡ linesOf d t (choose z [] (x ∷ []))
-    go true = refl
-    go false = first-short d t x []
-linesFrom-short d t x (y ∷ rest) = go (λ k. linesFrom-short d t k rest) (eqb y lineFeed)
-  where
-    go : ((k : List ℕ) → linesOf d t (linesFrom (take mostKept k) rest) ≡ linesOf d t (linesFrom k rest))
-        → (z : Bool) → linesOf d t (choose z (take mostKept x ∷ linesFrom [] rest)
-        (linesFrom (take mostKept x ++ y ∷ []) rest))
-        ≡ linesOf d t (choose z (x ∷ linesFrom [] rest) (linesFrom (x ++ y ∷ []) rest))
-    go f true = first-short d t x (linesFrom [] rest)
-    go f false =
-        sym (f (take mostKept x ++ y ∷ []))
-        ∙ ap (λ (l : List ℕ). linesOf d t (linesFrom l rest)) (short-snoc x y)
-        ∙ f (x ++ y ∷ [])
+linesOf-kept d t [] = refl
+linesOf-kept d t (x ∷ rest) =
+    let r = lineOf d t x in
+    rw (lineOf-short d t x) (ap (after (r .printed)) (linesOf-kept (r .state) (r .tables) rest))
 
 -- ---- the bytes l of a block, whatever comes after them
 
-linesFrom-ended : (x l more : List ℕ) → indexOf lineFeed l < length l
-    → linesFrom x (l ++ more) ≡ (x ++ take (indexOf lineFeed l) l) ∷ linesFrom []
-    (drop (indexOf lineFeed l + 1) l ++ more)
-unfolding linesFrom indexOf indexAfter
-linesFrom-ended x [] more h = absurd (not-suc-le-zero h)
-linesFrom-ended x (y ∷ l) more h = go (λ k g. linesFrom-ended k l more g) (eqb y lineFeed) h
-  where
-    go : ((k : List ℕ) → indexOf lineFeed l < length l
-        → linesFrom k (l ++ more) ≡ (k ++ take (indexOf lineFeed l) l) ∷ linesFrom []
-        (drop (indexOf lineFeed l + 1) l ++ more))
-        → (z : Bool) → indexAfter z (indexOf lineFeed l) < suc (length l)
-        → choose z (x ∷ linesFrom [] (l ++ more)) (linesFrom (x ++ y ∷ []) (l ++ more))
-        ≡ (x ++ take (indexAfter z (indexOf lineFeed l)) (y ∷ l)) ∷ linesFrom []
-        (drop (indexAfter z (indexOf lineFeed l) + 1) (y ∷ l) ++ more)
-    go f true g = ap (λ (k : List ℕ). k ∷ linesFrom [] (l ++ more)) (sym (append-nil x))
-    go f false g =
-        let q : suc (indexOf lineFeed l) + 1 ≡ suc (indexOf lineFeed l + 1) = omega arith in
-        f (x ++ y ∷ []) (omega arith)
-        ∙ ap (λ (k : List ℕ). k ∷ linesFrom [] (drop (indexOf lineFeed l + 1) l ++ more))
-        (append-snoc x y (take (indexOf lineFeed l) l))
-        ∙ ap (λ (n : ℕ). (x ++ y ∷ take (indexOf lineFeed l) l) ∷ linesFrom [] (drop n (y ∷ l) ++ more)) (sym q)
+-- a run, and then lines
+abbrev ranThen : Ran → List (List ℕ) → Ran
+ranThen r lines = after (r .printed) (linesOf (r .state) (r .tables) lines)
 
-linesFrom-open : (x l more : List ℕ) → length l ≤ indexOf lineFeed l → linesFrom x (l ++ more) ≡ linesFrom (x ++ l) more
-unfolding linesFrom indexOf indexAfter
-linesFrom-open x [] more h = ap (λ (k : List ℕ). linesFrom k more) (sym (append-nil x))
-linesFrom-open x (y ∷ l) more h = go (λ k g. linesFrom-open k l more g) (eqb y lineFeed) h
-  where
-    go : ((k : List ℕ) → length l ≤ indexOf lineFeed l → linesFrom k (l ++ more) ≡ linesFrom (k ++ l) more)
-        → (z : Bool) → suc (length l) ≤ indexAfter z (indexOf lineFeed l)
-        → choose z (x ∷ linesFrom [] (l ++ more)) (linesFrom (x ++ y ∷ []) (l ++ more)) ≡ linesFrom (x ++ y ∷ l) more
-    go f true g = absurd (not-suc-le-zero g)
-    go f false g = f (x ++ y ∷ []) (omega arith) ∙ ap (λ (k : List ℕ). linesFrom k more) (append-snoc x y l)
-
--- the bytes l fed to the end of one line at most, and what is left after it
-abbrev fedThen : Display → List ℕ → List ℕ → List ℕ → List ℕ → Ran
-fedThen d t x l more =
-    after (fedRun d t x l .printed)
-    (linesOf (fedRun d t x l .state) (fedRun d t x l .tables) (linesFrom (heldIn x l) (drop (usedIn l) l ++ more)))
-
--- together they are what was left before it
-line-left : (d : Display) (t x l more : List ℕ) → linesOf d t (linesFrom x (l ++ more)) ≡ fedThen d t x l more
-unfolding fedRun endsIn lineIn linesOf
+-- the bytes l fed to the end of one line at most, and what is left after it, are together what was left before
+line-left : (d : Display) (t x l more : List ℕ)
+    → linesOf d t (linesFrom x (l ++ more))
+    ≡ ranThen (fedRun d t x l) (linesFrom (heldIn mostKept x l) (drop (usedIn l) l ++ more))
+unfolding fedRun linesOf
 line-left d t x l more =
-    ⊎-elim
-    (λ (h : indexOf lineFeed l < length l).
-    rw (lt-ltb (indexOf lineFeed l) (length l) h, lineOf-short d t (x ++ take (indexOf lineFeed l) l))
-    (ap (linesOf d t) (linesFrom-ended x l more h)))
-    (λ (h : length l ≤ indexOf lineFeed l).
-    rw (le-ltb (indexOf lineFeed l) (length l) h, take-all (indexOf lineFeed l) l h, drop-length l)
-    (ap (linesOf d t) (linesFrom-open x l more h) ∙ sym (linesFrom-short d t (x ++ l) more)))
-    (split (indexOf lineFeed l) (length l))
+    sym (linesOf-kept d t (linesFrom x (l ++ more)))
+    ∙ ap (linesOf d t) (gather-left mostKept x l more (omega arith))
+    ∙ go (endsIn l) (linesFrom (heldIn mostKept x l) (drop (usedIn l) l ++ more))
+  where
+    go : (z : Bool) (rest : List (List ℕ))
+        → linesOf d t (choose z (lineIn mostKept x l ∷ []) [] ++ keptLines mostKept rest)
+        ≡ ranThen (choose z (lineOf d t (lineIn mostKept x l)) (idle d t)) rest
+    go true rest =
+        let r = lineOf d t (lineIn mostKept x l) in
+        ap (after (r .printed)) (linesOf-kept (r .state) (r .tables) rest)
+    go false rest = linesOf-kept d t rest
 
 -- ---- a call on the bytes l of a block
-
-heldIn-is : (x l u : List ℕ) → take (length (heldIn x l)) (over (lineIn x l) u) ≡ heldIn x l
-heldIn-is x l u = go (endsIn l)
-  where
-    go : (z : Bool) → take (length (choose z [] (lineIn x l))) (over (lineIn x l) u) ≡ choose z [] (lineIn x l)
-    go true = refl
-    go false = take-over (lineIn x l) u (length (lineIn x l)) refl
 
 after-after : (p q : List ℕ) (r : Ran) → after p (after q r) ≡ after (p ++ q) r
 after-after p q r =
@@ -172,8 +96,8 @@ turnOf-left l more b =
     ap (after (b .printed)) (line-left (b .going .state) (b .tables) (openOf b) (restOf l b) more)
     ∙ after-after (b .printed) (nextRun l b .printed)
     (linesOf (nextRun l b .state) (nextRun l b .tables)
-    (linesFrom (heldIn (openOf b) (restOf l b)) (drop (usedIn (restOf l b)) (restOf l b) ++ more)))
-    ∙ rw (heldIn-is (openOf b) (restOf l b) (b .text), drop-drop (usedIn (restOf l b)) (b .used) l) refl
+    (linesFrom (heldIn mostKept (openOf b) (restOf l b)) (drop (usedIn (restOf l b)) (restOf l b) ++ more)))
+    ∙ rw (heldIn-is mostKept (openOf b) (restOf l b) (b .text), drop-drop (usedIn (restOf l b)) (b .used) l) refl
 
 turnsOf-left : (n : ℕ) (l more : List ℕ) (b : Batch) → batchThen l more b ≡ batchThen l more (turnsOf n l b)
 unfolding turnsOf
@@ -274,18 +198,6 @@ linesOf-append d t (x ∷ xs) ys =
     let q = linesOf (r .state) (r .tables) xs in
     ap (after (r .printed)) (linesOf-append (r .state) (r .tables) xs ys)
     ∙ after-after (r .printed) (q .printed) (linesOf (q .state) (q .tables) ys)
-
-linesFrom-cut : (x a b : List ℕ) → linesFrom x (a ++ lineFeed ∷ b) ≡ linesFrom x (a ++ lineFeed ∷ []) ++ linesFrom [] b
-unfolding linesFrom
-linesFrom-cut x [] b = refl
-linesFrom-cut x (y ∷ a) b = go (λ k. linesFrom-cut k a b) (eqb y lineFeed)
-  where
-    go : ((k : List ℕ) → linesFrom k (a ++ lineFeed ∷ b) ≡ linesFrom k (a ++ lineFeed ∷ []) ++ linesFrom [] b)
-        → (z : Bool) → choose z (x ∷ linesFrom [] (a ++ lineFeed ∷ b)) (linesFrom (x ++ y ∷ []) (a ++ lineFeed ∷ b))
-        ≡ choose z (x ∷ linesFrom [] (a ++ lineFeed ∷ [])) (linesFrom (x ++ y ∷ []) (a ++ lineFeed ∷ []))
-        ++ linesFrom [] b
-    go f true = ap (λ (l : List (List ℕ)). x ∷ l) (f [])
-    go f false = f (x ++ y ∷ [])
 
 -- a sheet cut behind a line feed, and fed in two runs of which the second finds what the first
 -- leaves

@@ -4,8 +4,9 @@ use mathlib.Core.Path.{_≡_, refl}
 use mathlib.Core.List.{List, [], _∷_}
 use Rattle.display.specs.declared.Display.{Display}
 use Rattle.hex.specs.Hex.{valueOf, isHex, bytesIn, digitOf, digitsOf}
+use Rattle.texts.specs.Replies.{replyText}
 use Rattle.steps.specs.Form.{countAt, pastLoads, writesPlace, picturePlace, endPlace, isFormed}
-use Rattle.line.specs.Line.{doneOf, outcomeOf, replyText, Ran, lineOf}
+use Rattle.line.specs.Line.{doneOf, outcomeOf, Ran, lineOf}
 
 -- what bad form leaves: all as it was, and FE is printed
 abbrev badLine : Display → List ℕ → Ran

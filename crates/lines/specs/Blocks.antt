@@ -5,13 +5,13 @@ use mathlib.Core.Bool.{Bool}
 use mathlib.Core.List.{List, [], _++_}
 use lib.ListN.{length, take, drop}
 use lib.Dec.{ltb, leb, eqb}
-use Rattle.bytes.specs.Bytes.{indexOf}
-use Rattle.lists.specs.Choice.{pick, choose, both}
+use Rattle.lists.specs.Choice.{choose, both}
 use Rattle.lists.specs.Over.{over}
 use Rattle.profiles.specs.Profile.{oneBit}
 use Rattle.display.specs.declared.Display.{Display}
 use Rattle.display.specs.State.{fresh}
-use Rattle.line.specs.Sizes.{mostPrinted, lineFeed}
+use Rattle.texts.specs.Lines.{endsIn, lineIn, heldIn, usedIn}
+use Rattle.line.specs.Sizes.{mostPrinted}
 use Rattle.line.specs.Line.{Ran, idle, lineOf}
 use Rattle.lines.specs.declared.blocks.Going.{Going}
 use Rattle.lines.specs.declared.blocks.Fed.{Fed}
@@ -19,29 +19,10 @@ use Rattle.lines.specs.Sizes.{mostKept, outLen}
 
 -- ---- one line at most
 
--- what is kept of a line that began with x and goes on with l
-abbrev pub keptOf : List ℕ → List ℕ → List ℕ
-keptOf x l = take mostKept (x ++ l)
-
--- "Lines end with a line feed": whether a line does so in the bytes l
-unfoldable pub endsIn : List ℕ → Bool
-endsIn l = ltb (indexOf lineFeed l) (length l)
-
--- what has come, with them, of one that began with x
-unfoldable pub lineIn : List ℕ → List ℕ → List ℕ
-lineIn x l = keptOf x (take (indexOf lineFeed l) l)
-
--- what has come of the next line
-abbrev pub heldIn : List ℕ → List ℕ → List ℕ
-heldIn x l = choose (endsIn l) [] (lineIn x l)
-
--- how many of the bytes are used up, the line feed with them
-abbrev pub usedIn : List ℕ → ℕ
-usedIn l = pick (endsIn l) (indexOf lineFeed l + 1) (length l)
-
--- a line is done once it has ended; until then nothing is done, and nothing printed
+-- "Lines end with a line feed": a line that began with x is done once it has ended in the bytes l; until then
+-- nothing is done, and nothing printed
 unfoldable pub fedRun : Display → List ℕ → List ℕ → List ℕ → Ran
-fedRun d t x l = choose (endsIn l) (lineOf d t (lineIn x l)) (idle d t)
+fedRun d t x l = choose (endsIn l) (lineOf d t (lineIn mostKept x l)) (idle d t)
 
 -- "a last line without one counts if it has any byte": x is what has come of it
 unfoldable pub lastRun : Display → List ℕ → List ℕ → Ran
@@ -83,9 +64,9 @@ nextRun l b = fedRun (b .going .state) (b .tables) (openOf b) (restOf l b)
 unfoldable pub turnOf : List ℕ → Batch → Batch
 turnOf l b =
     record {
-      going = record { state = nextRun l b .state; held = length (heldIn (openOf b) (restOf l b)) };
+      going = record { state = nextRun l b .state; held = length (heldIn mostKept (openOf b) (restOf l b)) };
       tables = nextRun l b .tables;
-      text = over (lineIn (openOf b) (restOf l b)) (b .text);
+      text = over (lineIn mostKept (openOf b) (restOf l b)) (b .text);
       used = b .used + usedIn (restOf l b);
       printed = b .printed ++ nextRun l b .printed;
     }

@@ -2,21 +2,12 @@
 -- hexadecimal, one frame a line". Assumes nothing.
 use Prim.Native.Nat.{ℕ}
 use mathlib.Core.List.{List, [], _∷_, _++_}
-use lib.ListN.{length}
-use lib.Dec.{eqb}
-use Rattle.lists.specs.Choice.{choose}
 use Rattle.profiles.specs.Profile.{oneBit}
 use Rattle.tables.specs.Geometry.{tablesLen}
 use Rattle.display.specs.declared.Display.{Display}
 use Rattle.display.specs.State.{fresh}
-use Rattle.line.specs.Sizes.{lineFeed}
+use Rattle.texts.specs.Lines.{linesFrom}
 use Rattle.line.specs.Line.{zeros, Ran, idle, lineOf}
-
--- "Lines end with a line feed; a last line without one counts if it has any byte.": the lines of a
--- sheet whose first line has begun with x
-unfoldable pub linesFrom : List ℕ → List ℕ → List (List ℕ)
-linesFrom x [] = choose (eqb (length x) 0) [] (x ∷ [])
-linesFrom x (y ∷ rest) = choose (eqb y lineFeed) (x ∷ linesFrom [] rest) (linesFrom (x ++ y ∷ []) rest)
 
 -- one run, and then another: it prints the more
 abbrev pub after : List ℕ → Ran → Ran

@@ -3,18 +3,19 @@
 use crate::sizes::MOST_KEPT;
 use crate::sizes::OUT_LEN;
 use display::Display;
-use line::LINE_FEED;
 use line::MOST_PRINTED;
 use line::Printed;
 use numbers::least;
+use texts::gather;
 ghost use mathlib.Core.Path.{_≡_};
 ghost use Prim.Native.Nat.{_+_, _≤_, _<_};
 ghost use lib.ListN.{length, take};
 ghost use Rattle.lists.specs.Over.{over};
+ghost use Rattle.texts.specs.Lines.{lineIn};
 ghost use Rattle.line.specs.Sizes.{mostPrinted};
 ghost use Rattle.line.specs.Line.{printedOf};
 ghost use Rattle.lines.specs.Sizes.{mostKept, outLen};
-ghost use Rattle.lines.specs.Blocks.{keptOf, lineIn, lineBegun, begun, turnOf, goesOn, feedOf, fedOf, finishOf};
+ghost use Rattle.lines.specs.Blocks.{lineBegun, begun, turnOf, goesOn, feedOf, fedOf, finishOf};
 ghost use Rattle.lines.specs.Engine.Turns.{lineRun, lineFed, batchAt};
 
 // What goes on from call to call. Only `begin` and `feed` make one: its fields are closed to other
@@ -43,18 +44,6 @@ pub fn first() -> Going
     Going { state, held: 0 }
 }
 
-// The bytes of a part behind those of the line that have come; how many are now kept.
-fn keep(text: &mut [u8], held: usize, part: &[u8]) -> usize
-    requires { ⌜ length (now text) ≡ mostKept ⌝ }
-    ensures { λ r. ⌜ (r ≡ length (keptOf (take held (now (text .entry))) (now (part .entry)))) × (r ≤ mostKept)
-        × (now (text .exit) ≡ over (keptOf (take held (now (text .entry))) (now (part .entry))) (now (text .entry))) ⌝ }
-{
-    let n = least(held, MOST_KEPT);
-    let m = least(part.len(), MOST_KEPT - n);
-    bytes::copy(&part[..m], &mut text[n..]);
-    n + m
-}
-
 // On to the end of one line at most. Where the line ends it is done and printed, else it is kept.
 fn feed_line(going: Going, tables: &mut [u8], text: &mut [u8], block: &[u8], out: &mut [u8]) -> Fed
     requires { ⌜ (length (now text) ≡ mostKept) × (mostPrinted ≤ length (now out)) ⌝ }
@@ -62,17 +51,17 @@ fn feed_line(going: Going, tables: &mut [u8], text: &mut [u8], block: &[u8], out
     ensures { λ _. ⌜ now (tables .exit)
         ≡ lineRun going (now (tables .entry)) (now (text .entry)) (now (block .entry)) .tables ⌝ }
     ensures { λ _. ⌜ now (text .exit)
-        ≡ over (lineIn (lineBegun going (now (text .entry))) (now (block .entry))) (now (text .entry)) ⌝ }
+        ≡ over (lineIn mostKept (lineBegun going (now (text .entry))) (now (block .entry))) (now (text .entry)) ⌝ }
     ensures { λ _. ⌜ now (out .exit)
         ≡ over (lineRun going (now (tables .entry)) (now (text .entry)) (now (block .entry)) .printed)
         (now (out .entry)) ⌝ }
     ensures { λ r. ⌜ r .count ≤ mostPrinted ⌝ }
 {
     let state = going.state;
-    let held = going.held;
-    let at = bytes::scan::find(block, 0, block.len(), LINE_FEED);
-    let n = keep(text, held, &block[..at]);
-    if at < block.len() {
+    let g = gather(text, going.held, block);
+    let n = g.kept;
+    let used = g.used;
+    if g.ended {
         let r = line::run_in(state, tables, &text[..n], out);
         let after = r.state;
         return Fed {
@@ -80,13 +69,13 @@ fn feed_line(going: Going, tables: &mut [u8], text: &mut [u8], block: &[u8], out
                 state: after,
                 held: 0,
             },
-            used: at + 1,
+            used,
             count: r.count,
         };
     }
     Fed {
         going: Going { state, held: n },
-        used: at,
+        used,
         count: 0,
     }
 }

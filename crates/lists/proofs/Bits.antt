@@ -1,10 +1,11 @@
--- Laws of exclusive or, of bits set in any order, and of a single bit. Assumes nothing.
+-- Laws of exclusive or, of bits set in any order, of a single bit, and of a mask's bits. Assumes nothing.
 use mathlib.Core.Path.{_≡_, refl, sym, ap, ap₂, _∙_}
-use Prim.Native.Nat.{ℕ, zero, suc, _+_, _*_, _/_, _%_, _^_, _<_, max}
-use native.Mathlib.Nat.{one-mul}
+use Prim.Native.Nat.{ℕ, zero, suc, _+_, _-_, _*_, _/_, _%_, _^_, _≤_, _<_, min, max}
+use native.Mathlib.Nat.{one-mul, zero-mul, div-one, div-add-mod'}
 use native.Mathlib.Omega.{arith}
 use lib.Arith.{bin-ind}
-use lib.Bits.{bitXor, bitOr, or-step, or-zero-l, or-comm, or-self, differ, xor-step, xor-zero-l, xor-zero-r, xor-self, xor-shr}
+use lib.Bits.{bitAnd, and-step, and-mod, and-shr, and-le-l, and-zero-l, and-zero-r, bitXor, bitOr, or-step, or-zero-l}
+use lib.Bits.{or-comm, or-self, differ, xor-step, xor-zero-l, xor-zero-r, xor-self, xor-add-and, xor-shr, xor-mod}
 use lib.Pow.{shl-exact}
 
 -- ---- exclusive or
@@ -91,3 +92,61 @@ or-again e a =
 
 pub one-bit : (k : ℕ) → k < 32 → (1 * 2 ^ k) % 2 ^ 32 ≡ 2 ^ k
 one-bit k h = shl-exact {a = 1} 1 k 32 (omega arith) (omega arith) ∙ one-mul (2 ^ k)
+
+-- ---- a mask's bits
+
+-- a number without a lower part and without an upper one
+pub no-bits : (r A : ℕ) → r % A ≡ 0 → r / A ≡ 0 → r ≡ 0
+no-bits r A p q = sym (div-add-mod' r A) ∙ ap₂ (λ (x y : ℕ). x * A + y) q p ∙ rw (zero-mul A) refl
+
+-- of a mask's bits none is among the b from k on
+pub masked-field : (k b v M : ℕ) → M / 2 ^ k % 2 ^ b ≡ 0 → bitAnd v M / 2 ^ k % 2 ^ b ≡ 0
+masked-field k b v M m =
+    ap (λ (z : ℕ). z % 2 ^ b) (and-shr v M k) ∙ and-mod (v / 2 ^ k) (M / 2 ^ k) b ∙ ap (bitAnd (v / 2 ^ k % 2 ^ b)) m
+    ∙ and-zero-r (v / 2 ^ k % 2 ^ b)
+
+-- taken out, they are gone
+pub clear-plain : (v M : ℕ) → bitAnd (v - bitAnd v M) M ≡ 0
+clear-plain =
+    bin-ind (λ (v : ℕ). (M : ℕ) → bitAnd (v - bitAnd v M) M ≡ 0)
+    (λ M. ap (λ (z : ℕ). bitAnd z M) (let q : 0 - bitAnd 0 M ≡ 0 = omega arith in q) ∙ and-zero-l M)
+    (λ v ih M.
+    let d = digits v M (bitAnd v M) (bitAnd (v / 2) (M / 2)) (and-step v M) (and-le-l (v / 2) (M / 2)) in
+    and-step (v - bitAnd v M) M
+    ∙ ap₂ (λ (x y : ℕ). x * 2 + y) (ap (λ (z : ℕ). bitAnd z (M / 2)) (d .0) ∙ ih (M / 2)) (d .1))
+  where
+    digits : (v M r q : ℕ) → r ≡ q * 2 + min (v % 2) (M % 2) → q ≤ v / 2
+        → ((v - r) / 2 ≡ v / 2 - q) × (min ((v - r) % 2) (M % 2) ≡ 0)
+    digits v M r q e h = (omega arith, omega arith)
+
+-- masked once more
+and-again : (v M : ℕ) → bitAnd v (bitAnd v M) ≡ bitAnd v M
+and-again =
+    bin-ind (λ (v : ℕ). (M : ℕ) → bitAnd v (bitAnd v M) ≡ bitAnd v M)
+    (λ M. and-zero-l (bitAnd 0 M) ∙ sym (and-zero-l M))
+    (λ v ih M.
+    let d = digits (v % 2) (M % 2) (bitAnd v M) (bitAnd (v / 2) (M / 2)) (and-step v M) (omega arith) in
+    and-step v (bitAnd v M)
+    ∙ ap₂ (λ (x y : ℕ). x * 2 + y) (ap (bitAnd (v / 2)) (d .0) ∙ ih (M / 2)) (ap (min (v % 2)) (d .1) ∙ d .2)
+    ∙ sym (and-step v M))
+  where
+    digits : (x y r q : ℕ) → r ≡ q * 2 + min x y → x < 2
+        → (r / 2 ≡ q) × (r % 2 ≡ min x y) × (min x (min x y) ≡ min x y)
+    digits x y r q e h = (omega arith, omega arith, omega arith)
+
+clear-xor : (v M : ℕ) → v - bitAnd v M ≡ bitXor v (bitAnd v M)
+clear-xor v M = go (bitXor v (bitAnd v M)) (bitAnd v M) (xor-add-and v (bitAnd v M)) (and-again v M) (and-le-l v M)
+  where
+    go : (x r : ℕ) → x + bitAnd v r * 2 ≡ v + r → bitAnd v r ≡ r → r ≤ v → v - r ≡ x
+    go x r e q h = omega arith
+
+-- and no others: a field that has none of them stays
+pub clear-field : (k b v M : ℕ) → M / 2 ^ k % 2 ^ b ≡ 0 → (v - bitAnd v M) / 2 ^ k % 2 ^ b ≡ v / 2 ^ k % 2 ^ b
+clear-field k b v M m =
+    ap (λ (z : ℕ). z / 2 ^ k % 2 ^ b) (clear-xor v M) ∙ ap (λ (z : ℕ). z % 2 ^ b) (xor-shr v (bitAnd v M) k)
+    ∙ xor-mod (v / 2 ^ k) (bitAnd v M / 2 ^ k) b ∙ ap (bitXor (v / 2 ^ k % 2 ^ b)) (masked-field k b v M m)
+    ∙ xor-zero-r (v / 2 ^ k % 2 ^ b)
+
+-- one at the number's lower end
+pub clear-low : (b v M : ℕ) → M / 1 % 2 ^ b ≡ 0 → (v - bitAnd v M) % 2 ^ b ≡ v % 2 ^ b
+clear-low b v M m = rw (div-one (v - bitAnd v M), div-one v) at (clear-field 0 b v M m)

@@ -1,5 +1,5 @@
 -- Laws of choices, cases on numbers, and two that equal a third. Assumes nothing.
-use mathlib.Core.Path.{_≡_, refl, sym, _∙_}
+use mathlib.Core.Path.{_≡_, refl, sym, ap, _∙_}
 use mathlib.Core.Bool.{Bool, true, false, false≢true}
 use mathlib.Core.Logic.{_⊎_, inl, inr, ⊎-elim}
 use Prim.Native.Nat.{ℕ, zero, suc, _%_, _≤_, _<_, zero-le, suc-le-suc}
@@ -81,6 +81,10 @@ both-false true true h = absurd (h refl refl)
 both-false true false h = refl
 both-false false b h = refl
 
+pub both-not : (a b : Bool) → both a b ≡ false → a ≡ true → b ≡ false
+both-not true b e o = e
+both-not false b e o = absurd (false≢true o)
+
 pub both-none : (a : Bool) → both a false ≡ false
 both-none true = refl
 both-none false = refl
@@ -107,3 +111,11 @@ orElse-right (suc a) b e = let z : suc a ≡ 0 = orElse-left (suc a) b e in omeg
 
 pub orElse-none : (a b : ℕ) → a ≡ 0 → b ≡ 0 → orElse a b ≡ 0
 orElse-none a b p q = rw p q
+
+-- ---- a choice as a `return` after its test leaves it
+
+pub choose-first : {A : Type 0} (a b : A) {t u : Bool} {r : A} → t ≡ u → t ≡ true → r ≡ a → r ≡ choose u a b
+choose-first a b e q p = p ∙ ap (λ (x : Bool). choose x a b) (sym q ∙ e)
+
+pub choose-second : {A : Type 0} (a b : A) {t u : Bool} {r : A} → t ≡ u → t ≡ false → r ≡ b → r ≡ choose u a b
+choose-second a b e q p = p ∙ ap (λ (x : Bool). choose x a b) (sym q ∙ e)

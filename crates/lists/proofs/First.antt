@@ -1,11 +1,12 @@
 -- Laws of `firstOf`, by which a loop that leaves at the first refusal is proved. Assumes nothing.
-use mathlib.Core.Path.{_≡_, refl, sym, _∙_}
+use mathlib.Core.Path.{_≡_, refl, sym, ap₂, _∙_}
 use mathlib.Core.Logic.{⊎-elim}
 use Prim.Native.Nat.{ℕ, zero, suc, _+_, _<_, _≤_}
 use native.Mathlib.Decide.{le-ind}
 use native.Mathlib.Numerals.{add-one}
 use native.Mathlib.Omega.{arith}
 use borrow.Author.Tests.{ne-eqb}
+use Rattle.lists.specs.Choice.{orElse}
 use Rattle.lists.specs.Runs.{firstOf}
 use Rattle.lists.proofs.Choice.{same-or, orElse-left, orElse-right, orElse-none}
 
@@ -41,3 +42,18 @@ pub first-all : (n : ℕ) (f : ℕ → ℕ) → ((i : ℕ) → i < n → f i ≡
 unfolding firstOf
 first-all zero f h = refl
 first-all (suc n) f h = orElse-none (firstOf n f) (f n) (first-all n f (λ i lt. h i (omega arith))) (h n (omega arith))
+
+-- the same numbers
+pub first-cong : (n : ℕ) (f g : ℕ → ℕ) → ((i : ℕ) → i < n → f i ≡ g i) → firstOf n f ≡ firstOf n g
+unfolding firstOf
+first-cong zero f g h = refl
+first-cong (suc n) f g h = ap₂ orElse (first-cong n f g (λ i lt. h i (omega arith))) (h n (omega arith))
+
+-- where not all pass, one does not
+pub first-some : (n : ℕ) (f : ℕ → ℕ) → (firstOf n f ≡ 0 → ⊥) → (i : ℕ) × (i < n) × (f i ≡ 0 → ⊥)
+unfolding firstOf
+first-some zero f ne = absurd (ne refl)
+first-some (suc n) f ne = ⊎-elim
+    (λ (z : firstOf n f ≡ 0). (n, omega arith, λ e. ne (rw z e)))
+    (λ (s : firstOf n f ≡ 0 → ⊥). let r = first-some n f s in (r .0, omega (arith, r .1), r .2))
+    (same-or (firstOf n f) 0)

@@ -5,6 +5,7 @@ pub mod Tab
 pub mod Upto
 pub mod First
 pub mod Zero
+pub mod Room
 pub mod Sum
 pub mod Bits
 pub mod Digits

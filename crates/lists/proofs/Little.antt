@@ -2,13 +2,14 @@
 -- Assumes nothing.
 use mathlib.Core.Path.{_≡_, refl, sym, ap, _∙_}
 use mathlib.Core.List.{List, _++_}
-use Prim.Native.Nat.{ℕ, _+_, _*_, _/_, _%_, _^_, _-_, _≤_, _<_}
+use Prim.Native.Nat.{ℕ, zero, suc, _+_, _*_, _/_, _%_, _^_, _-_, _≤_, _<_}
+use native.Mathlib.Nat.{add-zero}
 use native.Mathlib.Omega.{arith}
 use lib.ListN.{length, getD, take, drop, set}
 use Rattle.lists.specs.Little.{littleAt}
 use Rattle.lists.specs.Bytes.{littleByte, littleBytes}
 use Rattle.lists.specs.Tab.{tab}
-use Rattle.lists.proofs.Tab.{getD-tab, length-tab}
+use Rattle.lists.proofs.Tab.{getD-tab, length-tab, is-tab}
 use Rattle.lists.proofs.Upto.{Upto, upto-none, upto-set, upto-lent, upto-done}
 
 -- ---- the bytes of a word
@@ -133,6 +134,46 @@ word-back w k n o at b h =
       byte-back w k n 3 (o + 3) (omega arith) (omega arith) b,
     )
     (bytes-sum (getD w k 0) h)
+
+-- ---- and the bytes of words that were read
+
+-- byte j of a word is the one that it was made of
+little-digit : (s : List ℕ) → ((i : ℕ) → getD s i 0 < 256) → (o j : ℕ) → j < 4
+    → getD s (o + j) 0 ≡ littleByte (littleAt s o) j
+unfolding littleAt littleByte
+little-digit s b o zero h =
+    rw add-zero (digit-0 (getD s o 0) (getD s (o + 1) 0) (getD s (o + 2) 0) (getD s (o + 3) 0) (b o))
+  where
+    digit-0 : (x y z w : ℕ) → x < 256 → x ≡ (x + 256 * y + 65536 * z + 16777216 * w) / 1 % 256
+    digit-0 x y z w h = omega arith
+little-digit s b o (suc zero) h =
+    digit-1 (getD s o 0) (getD s (o + 1) 0) (getD s (o + 2) 0) (getD s (o + 3) 0) (b o) (b (o + 1))
+  where
+    digit-1 : (x y z w : ℕ) → x < 256 → y < 256 → y ≡ (x + 256 * y + 65536 * z + 16777216 * w) / 256 % 256
+    digit-1 x y z w h k = omega arith
+little-digit s b o (suc (suc zero)) h =
+    digit-2 (getD s o 0) (getD s (o + 1) 0) (getD s (o + 2) 0) (getD s (o + 3) 0) (b o) (b (o + 1)) (b (o + 2))
+  where
+    digit-2 : (x y z w : ℕ) → x < 256 → y < 256 → z < 256
+        → z ≡ (x + 256 * y + 65536 * z + 16777216 * w) / 65536 % 256
+    digit-2 x y z w h k l = omega arith
+little-digit s b o (suc (suc (suc zero))) h =
+    digit-3 (getD s o 0) (getD s (o + 1) 0) (getD s (o + 2) 0) (getD s (o + 3) 0) (b o) (b (o + 1)) (b (o + 2))
+    (b (o + 3))
+  where
+    digit-3 : (x y z w : ℕ) → x < 256 → y < 256 → z < 256 → w < 256
+        → w ≡ (x + 256 * y + 65536 * z + 16777216 * w) / 16777216 % 256
+    digit-3 x y z w h k l m = omega arith
+little-digit s b o (suc (suc (suc (suc j)))) h = absurd (omega arith)
+
+pub bytes-back : (s w : List ℕ) (n : ℕ) → length s ≡ 4 * n → ((i : ℕ) → getD s i 0 < 256)
+    → ((k : ℕ) → k < n → getD w k 0 ≡ littleAt s (4 * k)) → s ≡ tab (4 * n) (littleBytes w)
+unfolding littleBytes
+bytes-back s w n long b e =
+    is-tab s (4 * n) (littleBytes w) long
+    (λ i h. let q : i ≡ 4 * (i / 4) + i % 4 = omega arith in
+    ap (λ (k : ℕ). getD s k 0) q ∙ little-digit s b (4 * (i / 4)) (i % 4) (omega arith)
+    ∙ ap (λ (v : ℕ). littleByte v (i % 4)) (sym (e (i / 4) (omega arith))))
 
 -- ---- the bounds of either
 

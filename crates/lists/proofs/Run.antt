@@ -2,6 +2,7 @@
 use mathlib.Core.Path.{_≡_, refl, sym, ap, ap₂, _∙_}
 use mathlib.Core.Logic.{⊎-elim}
 use Prim.Native.Nat.{ℕ, zero, suc, _+_, _-_, _≤_, _<_}
+use native.Mathlib.Numerals.{add-one}
 use native.Mathlib.Omega.{arith}
 use Rattle.lists.specs.Runs.{run}
 use Rattle.lists.proofs.Choice.{same-or}
@@ -26,7 +27,7 @@ pub run-id : (a k : ℕ) (f : ℕ → ℕ → ℕ) (p : ℕ) → ((d q : ℕ) �
 run-id a k f p h = run-keeps (λ (z : ℕ). z ≡ p) a k f p (λ d q w e. h d q w ∙ e) refl
 
 -- the same steps
-pub run-cong : (a k : ℕ) (f g : ℕ → ℕ → ℕ) (p : ℕ) → ((d q : ℕ) → Within a k d → f d q ≡ g d q)
+pub run-cong : {A : Type 0} (a k : ℕ) (f g : ℕ → A → A) (p : A) → ((d : ℕ) (q : A) → Within a k d → f d q ≡ g d q)
     → run a k f p ≡ run a k g p
 unfolding run
 run-cong a zero f g p h = refl
@@ -116,3 +117,61 @@ run-swap a (suc k) i j f g p lo m hi o b s = ⊎-elim
     (λ (ne : j ≡ a + k → ⊥). o (a + k) _ (omega arith) (omega arith) (omega arith)
     ∙ ap (g (a + k)) (run-swap a k i j f g p lo m (omega arith) (λ d q w. o d q (omega arith)) b s))
     (same-or j (a + k))
+
+-- ---- steps 0 to k - 1 of anything
+
+-- what a turn hands on to the next
+pub run-hands : {A : Type 0} (P : ℕ → A → Type 0) (k : ℕ) (f : ℕ → A → A) (p : A) → P 0 p
+    → ((n : ℕ) (q : A) → n < k → P n q → P (suc n) (f n q)) → P k (run 0 k f p)
+unfolding run
+run-hands P zero f p z s = z
+run-hands P (suc k) f p z s =
+    let q : 0 + k ≡ k = omega arith in
+    rw q (s k (run 0 k f p) (omega arith) (run-hands P k f p z (λ n v lt. s n v (omega arith))))
+
+-- turns that leave it as it is
+pub run-still : {A : Type 0} (k : ℕ) (f : ℕ → A → A) (p : A) → ((n : ℕ) → n < k → f n p ≡ p) → run 0 k f p ≡ p
+run-still k f p h = run-hands (λ n q. q ≡ p) k f p refl (λ n q lt e. ap (f n) e ∙ h n lt)
+
+-- the loop: before it, a turn, after it
+pub turns-none : {A : Type 0} (f : ℕ → A → A) (p : A) → p ≡ run 0 0 f p
+unfolding run
+turns-none f p = refl
+
+pub turns-next : {A : Type 0} (f : ℕ → A → A) (p : A) (n : ℕ) {v u : A} → v ≡ run 0 n f p → u ≡ f n v
+    → u ≡ run 0 (n + 1) f p
+unfolding run
+turns-next f p n e q =
+    let z : 0 + n ≡ n = omega arith in
+    rw (add-one, z) (q ∙ ap (f n) e)
+
+pub turns-all : {A : Type 0} (f : ℕ → A → A) (p : A) (k n : ℕ) {v : A} → n ≤ k → k ≤ n → v ≡ run 0 n f p
+    → v ≡ run 0 k f p
+turns-all f p k n lo hi e = let h : k ≡ n = omega arith in rw h e
+
+-- a step goes past the turns that it may trade places with, one by one; I holds of all that come
+module _ {A : Type 0} (I : A → Type 0) (k : ℕ) (g : ℕ → A → A) (keeps : (n : ℕ) (v : A) → n < k → I v → I (g n v)) where
+  run-kept : (j : ℕ) → j ≤ k → (p : A) → I p → I (run 0 j g p)
+  run-kept j h p i = run-hands (λ n. I) j g p i (λ n v lt. keeps n v (omega arith))
+
+  run-past : (F : A → A) → ((m : ℕ) (v : A) → m < k → I v → F (g m v) ≡ g m (F v)) → (j : ℕ) → j ≤ k → (p : A) → I p
+      → F (run 0 j g p) ≡ run 0 j g (F p)
+  unfolding run
+  run-past F trade zero h p i = refl
+  run-past F trade (suc j) h p i =
+      let z : 0 + j ≡ j = omega arith in
+      rw z (trade j (run 0 j g p) (omega arith) (run-kept j (omega arith) p i)
+      ∙ ap (g j) (run-past F trade j (omega arith) p i))
+
+  pub trade-step : (F : A → A) → ((m : ℕ) (v : A) → m < k → I v → F (g m v) ≡ g m (F v)) → (p : A) → I p
+      → F (run 0 k g p) ≡ run 0 k g (F p)
+  trade-step F trade = run-past F trade k (omega arith)
+
+-- and so do turns
+pub trade-turns : {A : Type 0} (I : A → Type 0) (k : ℕ) (f g : ℕ → A → A)
+    → ((n : ℕ) (v : A) → n < k → I v → I (f n v)) → ((n : ℕ) (v : A) → n < k → I v → I (g n v))
+    → ((n m : ℕ) (v : A) → n < k → m < k → I v → f n (g m v) ≡ g m (f n v)) → (p : A) → I p
+    → run 0 k f (run 0 k g p) ≡ run 0 k g (run 0 k f p)
+trade-turns I k f g keeps-f keeps-g trade =
+    trade-step I k g keeps-g (run 0 k f)
+    (λ m v hm i. sym (trade-step I k f keeps-f (g m) (λ n u hn j. sym (trade n m u hn hm j)) v i))

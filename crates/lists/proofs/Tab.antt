@@ -24,6 +24,13 @@ getD-tab (suc n) f zero h = refl
 getD-tab (suc n) f (suc i) h = getD-tab n (λ i. f (suc i)) i (le-of-suc-le-suc h)
 
 -- a list that has f i at each index i is the tab of f
+-- its elements are below a bound where the rule's numbers are
+pub tab-below : (n b : ℕ) (f : ℕ → ℕ) → 0 < b → ((i : ℕ) → f i < b) → (i : ℕ) → getD (tab n f) i 0 < b
+unfolding tab
+tab-below zero b f z h i = z
+tab-below (suc n) b f z h zero = h zero
+tab-below (suc n) b f z h (suc i) = tab-below n b (λ i. f (suc i)) z (λ i. h (suc i)) i
+
 pub is-tab : (l : List ℕ) (n : ℕ) (f : ℕ → ℕ) → length l ≡ n → ((i : ℕ) → i < n → getD l i 0 ≡ f i) → l ≡ tab n f
 is-tab l n f e h =
     ext-getD 0 l (tab n f) (e ∙ sym (length-tab n f))

@@ -14,6 +14,6 @@ sumOf zero f = 0
 sumOf (suc n) f = sumOf n f + f n
 
 -- p after the steps f a, f (a + 1), .. f (a + k - 1), in that order
-unfoldable pub run : ℕ → ℕ → (ℕ → ℕ → ℕ) → ℕ → ℕ
+unfoldable pub run : {A : Type 0} → ℕ → ℕ → (ℕ → A → A) → A → A
 run a zero f p = p
 run a (suc k) f p = f (a + k) (run a k f p)

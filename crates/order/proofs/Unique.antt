@@ -2,8 +2,12 @@
 -- in `src/lib.rt`: of the arguments i, the answer a or b, and the arguments at exit, e or f. Assumes nothing.
 use mathlib.Core.Path.{_≡_}
 use Rattle.lists.proofs.Choice.{meet}
+use Rattle.order.proofs.is_here.Reads as is_here
 use Rattle.order.proofs.order_of.Reads as order_of
 use Rattle.order.proofs.pictures_of.Reads as pictures_of
+
+pub is-here-unique : (κs i a b e f : _) → is_here.Post κs i a e → is_here.Post κs i b f → a ≡ b
+is-here-unique κs i a b e f p q = meet p q
 
 pub order-of-unique : (κs i a b e f : _) → order_of.Post κs i a e → order_of.Post κs i b f → a ≡ b
 order-of-unique κs i a b e f p q = meet p q

@@ -17,7 +17,7 @@ pub struct Order {
 }
 
 // Whether a layer is enabled and of depth d.
-fn is_here(l: Layer, d: usize) -> bool
+pub fn is_here(l: Layer, d: usize) -> bool
     ensures { λ r. ⌜ r ≡ here l d ⌝ }
 {
     if l.on {

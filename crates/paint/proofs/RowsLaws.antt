@@ -86,7 +86,7 @@ module _ (s : Scene) (part : Part) (fresh : Bool) (wide : 0 < widthOf (s .words)
       let k : i / S < part .count = div-lt-iff-lt-mul {k = S} (omega arith) .1 (omega arith) in
       rw (lt-ltb (i / S) y (omega arith)))
 
-  -- as the code has it, with the stride and the height in variables
+  -- as the code has it, with the stride in a variable
   pub rows-lent : (S y : ℕ) (out line out₀ : List ℕ) → S ≡ 4 * widthOf (s .words) → y * S + S ≤ length out
       → out ≡ each (rowsByte s part fresh y) out₀
       → line ≡ each (laidLine s part fresh (part .first + y)) (take (y * S + S - y * S) (drop (y * S) out))

@@ -4,11 +4,11 @@ use mathlib.Core.Path.{_≡_, ap, _∙_}
 use mathlib.Core.List.{List}
 use native.Mathlib.Omega.{arith}
 use lib.ListN.{length, take, drop, length-drop}
+use Rattle.texts.proofs.GatherLaws.{rest-is}
 use Rattle.lines.specs.declared.blocks.Going.{Going}
 use Rattle.lines.specs.declared.blocks.Fed.{Fed}
 use Rattle.lines.specs.Sizes.{outLen}
 use Rattle.lines.specs.Blocks.{Batch, feedOf, fedOf}
-use Rattle.lines.proofs.BlockLaws.{rest-is}
 
 -- n bytes of l are used up
 module _ (g : Going) (t u l : List ℕ) (n : ℕ) (f : Fed) (inside : n < length l)

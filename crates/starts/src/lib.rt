@@ -17,7 +17,7 @@ use words::fields::screen_height;
 use words::fields::screen_width;
 
 // The reserved bits of each register: those of which no field is made.
-const RESERVED: [u32; 52] = [
+pub const RESERVED: [u32; 52] = [
     0xffff_fffa,
     0xf000_f000,
     0xff00_0000,
@@ -98,7 +98,7 @@ fn first_reserved(w: &[u32; 52]) -> u8
 }
 
 // Whether the output has a size.
-fn screen(w: &[u32; 52]) -> u8
+pub fn screen(w: &[u32; 52]) -> u8
     ensures { λ r. ⌜ r ≡ screenOf (now (w .entry)) ⌝ }
 {
     if screen_width(w) == 0 {
@@ -177,7 +177,7 @@ fn clash(w: &[u32; 52], n: usize, m: usize) -> u8
 }
 
 // Layer n beside each of lower number.
-fn clash_below(w: &[u32; 52], n: usize) -> u8
+pub fn clash_below(w: &[u32; 52], n: usize) -> u8
     requires { ⌜ n < 8 ⌝ }
     ensures { λ r. ⌜ r ≡ clashBelow (now (w .entry)) n ⌝ }
 {

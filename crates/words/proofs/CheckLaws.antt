@@ -20,10 +20,10 @@ use Rattle.words.specs.Check.{checkOf, Plain, Placed, Accepted}
 
 -- ---- the tests, one by one
 
-not-zero : (a : ℕ) → eqb a 0 ≡ false → 0 < a
+pub not-zero : (a : ℕ) → eqb a 0 ≡ false → 0 < a
 not-zero a e = let h : a ≡ 0 → ⊥ = eqb-false a 0 e in omega arith
 
-above-zero : (a : ℕ) → 0 < a → eqb a 0 ≡ false
+pub above-zero : (a : ℕ) → 0 < a → eqb a 0 ≡ false
 above-zero a h = ne-eqb a 0 (λ q. omega arith)
 
 -- a test that does not refuse
@@ -67,7 +67,7 @@ module _ (W H : ℕ) (l : Layer) where
           (goes-on _ 10 _ (le-ltb _ _ (p .right)) (goes-on _ 10 _ (le-ltb _ _ (p .below)) refl)))
       go false f = refl
 
-clash-apart : (l m : Layer) → clashOf l m ≡ 0 → l .on ≡ true → m .on ≡ true → l .depth ≡ m .depth → ⊥
+pub clash-apart : (l m : Layer) → clashOf l m ≡ 0 → l .on ≡ true → m .on ≡ true → l .depth ≡ m .depth → ⊥
 unfolding clashOf
 clash-apart l m e p q = eqb-false _ _ (refuses-not (eqb (l .depth) (m .depth)) 10 0 (rw (p, q) at e) .0)
 

@@ -3,4 +3,6 @@ pub mod PassedLaws
 pub mod OrderLaws
 pub mod PictureLaws
 pub mod CheckLaws
+pub mod ImageLaws
+pub mod ChangeLaws
 pub mod Unique

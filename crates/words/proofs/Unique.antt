@@ -9,6 +9,10 @@ use Rattle.words.proofs.fields.screen_height.Reads as screen_height
 use Rattle.words.proofs.fields.ground_of.Reads as ground_of
 use Rattle.words.proofs.fields.active_bank.Reads as active_bank
 use Rattle.words.proofs.fields.layer_of.Reads as layer_of
+use Rattle.words.proofs.change.with_off.Reads as with_off
+use Rattle.words.proofs.change.with_depth.Reads as with_depth
+use Rattle.words.proofs.change.with_corner.Reads as with_corner
+use Rattle.words.proofs.change.with_size.Reads as with_size
 use Rattle.words.proofs.image.word_at.Reads as word_at
 use Rattle.words.proofs.image.words_at.Reads as words_at
 
@@ -38,3 +42,15 @@ word-at-unique κs i a b e f p q = meet p q
 
 pub words-at-unique : (κs i a b e f : _) → words_at.Post κs i a e → words_at.Post κs i b f → a ≡ b
 words-at-unique κs i a b e f p q = meet p q
+
+pub with-off-unique : (κs i a b e f : _) → with_off.Post κs i a e → with_off.Post κs i b f → a ≡ b
+with-off-unique κs i a b e f p q = meet p q
+
+pub with-depth-unique : (κs i a b e f : _) → with_depth.Post κs i a e → with_depth.Post κs i b f → a ≡ b
+with-depth-unique κs i a b e f p q = meet p q
+
+pub with-corner-unique : (κs i a b e f : _) → with_corner.Post κs i a e → with_corner.Post κs i b f → a ≡ b
+with-corner-unique κs i a b e f p q = meet p q
+
+pub with-size-unique : (κs i a b e f : _) → with_size.Post κs i a e → with_size.Post κs i b f → a ≡ b
+with-size-unique κs i a b e f p q = meet p q

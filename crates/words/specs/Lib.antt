@@ -4,3 +4,4 @@ pub mod Check
 pub mod Order
 pub mod Pictures
 pub mod Image
+pub mod Change

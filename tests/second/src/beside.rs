@@ -1,8 +1,9 @@
 //! What the tests share that run another program beside this display. It reads no section of
 //! document 01.
 
-use crate::cases::HostCase;
+use crate::cases::{HostCase, MendCase};
 use crate::doors::{begin_record, Door, Stage, Step, Told, COUNT, OUTPUT, STATE};
+use crate::mend::{Lent, LIST_LEN};
 use std::collections::BTreeMap;
 use std::env;
 use std::ffi::OsString;
@@ -117,6 +118,11 @@ pub fn figures(script: &[u8]) -> Vec<u8> {
     run(&program("SPOONWING_FIGURES", "../../tools/run"), &["figures"], script)
 }
 
+/// What the program that mends prints for lines.
+pub fn mended(text: &[u8]) -> Vec<u8> {
+    run(&program("SPOONWING_MEND", "../../tools/mend"), &[], text)
+}
+
 /// How a host passes a buffer of no bytes.
 #[derive(Clone, Copy, Debug, PartialEq, Eq)]
 pub enum Empty {
@@ -138,6 +144,21 @@ fn spawn(program: &Path) -> Child {
         .stdout(Stdio::piped())
         .spawn()
         .unwrap_or_else(|error| panic!("{} does not run: {error}", program.display()))
+}
+
+fn write(child: &mut Child, bytes: &[u8]) -> io::Result<()> {
+    let input = child.stdin.as_mut().expect("it is piped");
+    input.write_all(bytes).and_then(|()| input.flush())
+}
+
+fn read(child: &mut Child, count: usize) -> io::Result<Vec<u8>> {
+    let mut bytes = vec![0; count];
+    child.stdout.as_mut().expect("it is piped").read_exact(&mut bytes)?;
+    Ok(bytes)
+}
+
+fn read_number(child: &mut Child) -> io::Result<u32> {
+    Ok(u32::from_le_bytes(read(child, 4)?.try_into().expect("four")))
 }
 
 impl Host {
@@ -196,7 +217,7 @@ impl Doors {
     }
 
     fn tell(&mut self, steps: &[Step], told: &mut Vec<Told>) -> io::Result<()> {
-        self.write(&begin_record())?;
+        write(&mut self.child, &begin_record())?;
         for step in steps {
             told.extend(self.step(step)?);
         }
@@ -204,33 +225,61 @@ impl Doors {
     }
 
     fn step(&mut self, step: &Step) -> io::Result<Option<Told>> {
-        self.write(&step.record())?;
+        let child = &mut self.child;
+        write(child, &step.record())?;
         let Step::Call { lent, .. } = step else { return Ok(None) };
-        let [answer, touched] = [self.number()?, self.number()?];
-        let state = self.read(lent[STATE].length)?;
-        let changed = self.number()? as usize;
+        let [answer, touched] = [read_number(child)?, read_number(child)?];
+        let state = read(child, lent[STATE].length)?;
+        let changed = read_number(child)? as usize;
         // A place and a byte, each a number.
         let change =
             |pair: &[u8]| (u32::from_le_bytes(pair[..4].try_into().expect("four")), pair[4]);
-        let changes = self.read(8 * changed)?.chunks(8).map(change).collect();
-        let out = self.read(lent[OUTPUT].length)?;
-        let count = self.read(lent[COUNT].length)?;
+        let changes = read(child, 8 * changed)?.chunks(8).map(change).collect();
+        let out = read(child, lent[OUTPUT].length)?;
+        let count = read(child, lent[COUNT].length)?;
         Ok(Some(Told { answer, is_touched: touched != 0, state, changes, out, count }))
     }
+}
 
-    fn write(&mut self, bytes: &[u8]) -> io::Result<()> {
-        let input = self.child.stdin.as_mut().expect("it is piped");
-        input.write_all(bytes).and_then(|()| input.flush())
+/// The C program of `mend_calls.c`, which makes one call after another.
+pub struct Mends {
+    child: Child,
+}
+
+/// The answer of a call, whether a byte beside a buffer was touched, and what it was lent,
+/// afterwards.
+pub type Mended = (u32, bool, Lent);
+
+impl Mends {
+    pub fn start() -> Mends {
+        Mends { child: spawn(&program("SPOONWING_MENDS", "../../tools/c-mend")) }
     }
 
-    fn read(&mut self, count: usize) -> io::Result<Vec<u8>> {
-        let mut bytes = vec![0; count];
-        self.child.stdout.as_mut().expect("it is piped").read_exact(&mut bytes)?;
-        Ok(bytes)
+    /// What it tells of a call. Of one that ends the program it tells nothing, and the program is
+    /// started anew.
+    pub fn call(&mut self, case: &MendCase) -> Option<Mended> {
+        let told = self.tell(case).ok();
+        if told.is_none() {
+            self.child.wait().expect("it was started");
+            *self = Mends::start();
+        }
+        told
     }
 
-    fn number(&mut self) -> io::Result<u32> {
-        Ok(u32::from_le_bytes(self.read(4)?.try_into().expect("four")))
+    fn tell(&mut self, case: &MendCase) -> io::Result<Mended> {
+        let child = &mut self.child;
+        let Lent { image, list, count } = &case.lent;
+        let [at_image, at_list, at_count] = case.past.map(|past| past as u32);
+        let front = [image.len() as u32, case.null.into(), at_image, at_list, at_count];
+        let [front, list] =
+            [&front[..], list].map(|numbers| numbers.iter().flat_map(|n| n.to_le_bytes()));
+        let text = front.chain(image.iter().copied()).chain(list).chain(count.to_le_bytes());
+        write(child, &text.collect::<Vec<u8>>())?;
+        let [answer, touched] = [read_number(child)?, read_number(child)?];
+        let image = read(child, image.len())?;
+        let list = (0..LIST_LEN).map(|_| read_number(child)).collect::<io::Result<_>>()?;
+        let count = u64::from_le_bytes(read(child, 8)?.try_into().expect("eight"));
+        Ok((answer, touched != 0, Lent { image, list, count }))
     }
 }
 

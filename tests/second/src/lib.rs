@@ -11,6 +11,7 @@ pub mod doors;
 pub mod draw;
 pub mod fade;
 pub mod host;
+pub mod mend;
 pub mod paint;
 pub mod rng;
 pub mod script;

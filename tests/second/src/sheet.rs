@@ -61,17 +61,23 @@ fn digit(byte: u8) -> Option<u8> {
     }
 }
 
+/// The bytes that digits stand for, two digits a byte; None where there is an odd number of them or
+/// some other byte.
+pub fn read_digits(text: &[u8]) -> Option<Vec<u8>> {
+    let digits: Option<Vec<u8>> = text.iter().map(|&byte| digit(byte)).collect();
+    digits?.chunks(2).map(|pair| Some(16 * pair[0] + pair.get(1)?)).collect()
+}
+
 impl Line {
     /// "two digits for the number of loads, each load being selection (2), byte count (4), bytes;
     /// two digits for the number of writes, each register (2), value (8); picture byte count (4),
     /// bytes." None is a "badly formed, empty or too long line". Every part has an even number of
     /// digits, so digits are first read in pairs.
     pub fn read(text: &[u8]) -> Option<Line> {
-        if text.len() > MOST_DIGITS || text.len() % 2 == 1 {
+        if text.len() > MOST_DIGITS {
             return None;
         }
-        let digits: Option<Vec<u8>> = text.iter().map(|&byte| digit(byte)).collect();
-        let bytes: Vec<u8> = digits?.chunks(2).map(|pair| 16 * pair[0] + pair[1]).collect();
+        let bytes = read_digits(text)?;
         let mut reader = Reader { rest: &bytes };
         let mut line = Line::default();
         for _ in 0..reader.number(1)? {
@@ -163,18 +169,18 @@ impl Sheet {
     }
 }
 
-/// What a whole sheet prints. "Lines end with a line feed; a last line without one counts if it has
-/// any byte."
+/// What a whole sheet prints.
 pub fn print_sheet(text: &[u8]) -> Vec<u8> {
     let mut sheet = Sheet::new();
-    let mut printed = Vec::new();
+    read_lines(text).into_iter().flat_map(|line| sheet.line(line)).collect()
+}
+
+/// "Lines end with a line feed; a last line without one counts if it has any byte."
+pub fn read_lines(text: &[u8]) -> Vec<&[u8]> {
     let mut lines: Vec<&[u8]> = text.split(|&byte| byte == b'\n').collect();
     // What follows the last line feed is a line only if it has any byte.
     if lines.last().is_some_and(|last| last.is_empty()) {
         lines.pop();
     }
-    for line in lines {
-        printed.extend(sheet.line(line));
-    }
-    printed
+    lines
 }

@@ -19,8 +19,8 @@ answer-requires c κs = search needs
 array-share-prefix-reply : tie.Need-array-share-prefix-reply
 array-share-prefix-reply c = search needs
 
-slice-aggregate-print : tie.Need-slice-aggregate-print
-slice-aggregate-print c =
+slice-aggregate-print-line : tie.Need-slice-aggregate-print-line
+slice-aggregate-print-line c =
     let k = c .before .before .before .before .before .answer in
     sym (length-take-le _ (k .last .1 .1 .1 .0)
     (omega (
@@ -30,20 +30,19 @@ slice-aggregate-print c =
       c .before .before .before .before .before .before .before .before .no-reply .ensures .0,
     )))
 
-print-requires : tie.Need-print-requires
-print-requires c κs =
-    let k = c .before .before .before .before .before .before .answer in (
-      omega (
-        arith,
-        k .ensures .fits,
-        length-take-le (k .result .count) (k .last .1 .1 .1 .0)
-            (omega (
-              arith,
-              k .ensures .fits,
-              k .kept .1 .1 .1 .0,
-              c .before .before .before .before .before .before .before .before .before .no-reply .ensures .0,
-            )),
-      ),
+print-line-requires : tie.Need-print-line-requires
+print-line-requires c κs =
+    let k = c .before .before .before .before .before .before .answer in
+    omega (
+      arith,
+      k .ensures .fits,
+      length-take-le (k .result .count) (k .last .1 .1 .1 .0)
+          (omega (
+            arith,
+            k .ensures .fits,
+            k .kept .1 .1 .1 .0,
+            c .before .before .before .before .before .before .before .before .before .no-reply .ensures .0,
+          )),
       c .before .before .before .before .before .before .before .before .before .before .before .before .before .pre,
     )
 
@@ -60,7 +59,7 @@ returns c =
     .before .before .args in
     line-is (a .state) (a .tables .now) (a .text .now) _ _ _ _ _ _
     (c .before .before .before .before .before .before .before .before .before .answer .ensures)
-    (c .before .before .print .ensures .0) (c .before .before .print .ensures .1)
+    (c .before .before .print-line .ensures .0) (c .before .before .print-line .ensures .1)
 
 pub run-in-spec : {M : Type 1} → statement M
 run-in-spec =
@@ -70,8 +69,8 @@ run-in-spec =
     slice-aggregate-answer
     answer-requires
     array-share-prefix-reply
-    slice-aggregate-print
-    print-requires
+    slice-aggregate-print-line
+    print-line-requires
     same-length
     same-length-2
     returns)

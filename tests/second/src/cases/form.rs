@@ -22,7 +22,7 @@ pub fn bytes(line: &Line) -> Vec<u8> {
     bytes
 }
 
-fn upper_digits(bytes: &[u8]) -> Vec<u8> {
+pub fn upper_digits(bytes: &[u8]) -> Vec<u8> {
     bytes.iter().map(|byte| format!("{byte:02X}")).collect::<String>().into_bytes()
 }
 
@@ -86,7 +86,7 @@ pub fn spoil(rng: &mut Rng, line: &Line, good: &[u8]) -> Vec<u8> {
 }
 
 /// Any byte but a digit and the line feed; the neighbours of the digits come often.
-fn foreign_byte(rng: &mut Rng) -> u8 {
+pub fn foreign_byte(rng: &mut Rng) -> u8 {
     let neighbours = *b" \t\r\0/:@G`g-x\x80\xFF";
     let any = rng.byte();
     if rng.percent(70) || any == b'\n' || any.is_ascii_hexdigit() {
@@ -100,6 +100,11 @@ fn foreign_byte(rng: &mut Rng) -> u8 {
 fn lengthen(rng: &mut Rng, text: &mut Vec<u8>) {
     let length =
         rng.pick(&[MOST_DIGITS + 1, MOST_DIGITS + 2, 2 * MOST_DIGITS, 10_000, 65_536, 70_001]);
+    add_digits(rng, text, length);
+}
+
+/// Adds digits until there are so many.
+pub fn add_digits(rng: &mut Rng, text: &mut Vec<u8>, length: usize) {
     while text.len() < length {
         text.push(rng.pick(b"0123456789ABCDEFabcdef"));
     }

@@ -297,6 +297,7 @@ impl<'a> Reader<'a> {
     fn impostors(&mut self, cell: &str, calls: &str) {
         let call = match names_in(calls).first().map(|name| bare(&name.text).to_string()) {
             Some(call) if call == "spoonwing_frame" => "host".into(),
+            Some(call) if call == "spoonwing_mend" => "mend".into(),
             Some(call) if call == "run_line" => "line".into(),
             Some(call) => call.replace('_', "-"),
             None => return,

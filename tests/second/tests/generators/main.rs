@@ -4,14 +4,15 @@
 mod doors;
 mod letters;
 mod lines;
+mod mends;
 mod runs;
 
 use letters::{bits_name, text_kinds, text_names, value_names};
 use letters::{made_name, made_names, others_name, others_names};
 use lines::{line_kinds, line_names, LineCall};
 use second::answers::*;
-use second::cases::{end_name, gate_script, gen_calls, gen_edges, gen_host, gen_row, gen_sheet};
-use second::cases::{HostCase, EDGES, HOST_CALLS, LINES_A_SHEET};
+use second::cases::{end_name, gate_script, gen_calls, gen_edges, gen_host, gen_mend, gen_page};
+use second::cases::{gen_row, gen_sheet, HostCase, EDGES, HOST_CALLS, LINES_A_SHEET};
 use second::cases::{RECORDS_A_SCRIPT, SCRIPTS, SHEETS};
 use second::display::ITEM_LEN;
 use second::draw::List;
@@ -466,4 +467,8 @@ fn a_seed_is_a_case() {
     assert_eq!(format!("{:?}", gen_calls(7, 100)), format!("{:?}", gen_calls(7, 100)));
     assert_eq!(gen_row(7), gen_row(7));
     assert_ne!(gen_row(7), gen_row(8));
+    assert_eq!(format!("{:?}", gen_mend(7)), format!("{:?}", gen_mend(7)));
+    assert_ne!(gen_mend(7).lent, gen_mend(8).lent);
+    assert_eq!(gen_page(7, 40), gen_page(7, 40));
+    assert_ne!(gen_page(7, 40), gen_page(8, 40));
 }

@@ -1,11 +1,11 @@
--- `lines::blocks::keep` meets its contract: the bytes for which there is room are copied behind
--- those that are held. Assumes nothing.
+-- `texts::keep` meets its contract: the bytes for which there is room are copied behind those that are
+-- held. Assumes nothing.
 use borrow.Author.Needs.{needs}
 use native.Mathlib.Omega.{arith}
 use mathlib.Core.Path.{sym}
-use Rattle.lines.proofs.BlockLaws.{part-long, kept-long, kept-room, kept-over}
-use Rattle.lines.proofs.blocks.keep.Statement.{statement}
-use Rattle.lines.proofs.blocks.keep.Tie as tie
+use Rattle.texts.proofs.GatherLaws.{part-long, kept-long, kept-room, kept-over}
+use Rattle.texts.proofs.keep.Statement.{statement}
+use Rattle.texts.proofs.keep.Tie as tie
 
 least-requires : tie.Need-least-requires
 least-requires c κs = search needs
@@ -20,7 +20,7 @@ slice-aggregate-copy : tie.Need-slice-aggregate-copy
 slice-aggregate-copy c =
     let a = c .before .before .before .before .before in
     sym (part-long (a .args .text .now) (a .args .part .now) (a .args .held) (c .before .before .least .result)
-    (c .before .least2 .result) (a .pre) (omega (arith, c .before .before .least .ensures))
+    (c .before .least2 .result) (omega (arith, c .before .before .least .ensures))
     (omega (arith, c .before .least2 .ensures)))
 
 sub-copy : tie.Need-sub-copy
@@ -36,7 +36,7 @@ copy-requires : tie.Need-copy-requires
 copy-requires c κs =
     let a = c .before .before .before .before .before .before in
     kept-room (a .args .text .now) (a .args .part .now) (a .args .held) (c .before .before .before .least .result)
-    (c .before .before .least2 .result) (a .pre) (omega (arith, c .before .before .before .least .ensures))
+    (c .before .before .least2 .result) (omega (arith, c .before .before .before .least .ensures))
     (omega (arith, c .before .before .least2 .ensures))
 
 add-result : tie.Need-add-result
@@ -50,10 +50,10 @@ returns c =
     let a = c .before .before .before .before .before .before .before .before .before in
     let n = c .before .before .before .before .before .before .least in
     let m = c .before .before .before .before .before .least2 in (
-      kept-long (a .args .text .now) (a .args .part .now) (a .args .held) (n .result) (m .result) (a .pre)
+      kept-long (a .args .text .now) (a .args .part .now) (a .args .held) (n .result) (m .result)
           (omega (arith, n .ensures)) (omega (arith, m .ensures)),
       omega (arith, n .ensures, m .ensures),
-      kept-over (a .args .text .now) (a .args .part .now) (a .args .held) (n .result) (m .result) (a .pre)
+      kept-over (a .args .text .now) (a .args .part .now) (a .args .held) (n .result) (m .result)
           (omega (arith, n .ensures)) (omega (arith, m .ensures)) _ (c .before .before .copy .ensures .1),
     )
 

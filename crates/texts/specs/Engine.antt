@@ -1,0 +1,3 @@
+-- What workers inside `src/` ask and do, on the way to the definitions beside this file. No definition
+-- of the document and no law rests on these: a reader may skip them. Assumes nothing.
+pub mod Gathers

@@ -1,0 +1,37 @@
+-- The 52 words with a field of one layer replaced: 01 "Registers", layer n's words 4+6n, 6+6n and 7+6n.
+-- Assumes nothing.
+use Prim.Native.Nat.{ℕ, _+_, _*_, _/_, _%_}
+use mathlib.Core.List.{List}
+use lib.ListN.{getD, set}
+
+-- ---- a word with a field replaced, its other bits kept
+
+-- "bit 0 enabled": cleared
+abbrev pub offWord : ℕ → ℕ
+offWord v = v / 2 * 2
+
+-- "depth 10:8": d
+abbrev pub depthWord : ℕ → ℕ → ℕ
+depthWord v d = v / 2048 * 2048 + d * 256 + v % 256
+
+-- "x 11:0, y 27:16", "width 11:0, height 27:16": a and b
+abbrev pub pairWord : ℕ → ℕ → ℕ → ℕ
+pairWord v a b = v / 268435456 * 268435456 + b * 65536 + v / 4096 % 16 * 4096 + a
+
+-- ---- the words with layer n's replaced
+
+-- switched off
+unfoldable pub withOff : List ℕ → ℕ → List ℕ
+withOff w n = set w (4 + 6 * n) (offWord (getD w (4 + 6 * n) 0))
+
+-- at depth d
+unfoldable pub withDepth : List ℕ → ℕ → ℕ → List ℕ
+withDepth w n d = set w (4 + 6 * n) (depthWord (getD w (4 + 6 * n) 0) d)
+
+-- at (x, y)
+unfoldable pub withCorner : List ℕ → ℕ → ℕ → ℕ → List ℕ
+withCorner w n x y = set w (6 + 6 * n) (pairWord (getD w (6 + 6 * n) 0) x y)
+
+-- so wide and so high
+unfoldable pub withSize : List ℕ → ℕ → ℕ → ℕ → List ℕ
+withSize w n a b = set w (7 + 6 * n) (pairWord (getD w (7 + 6 * n) 0) a b)

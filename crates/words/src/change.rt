@@ -1,0 +1,62 @@
+// The 52 words with a field of one layer replaced. No other file writes a field of a word.
+ghost use mathlib.Core.Path.{_≡_};
+ghost use Prim.Native.Nat.{_<_};
+ghost use Rattle.words.specs.Change.{offWord, depthWord, pairWord, withOff, withDepth, withCorner, withSize};
+
+fn off_word(v: u32) -> u32
+    ensures { λ r. ⌜ r ≡ offWord v ⌝ }
+{
+    v / 2 * 2
+}
+
+fn depth_word(v: u32, d: u32) -> u32
+    requires { ⌜ d < 8 ⌝ }
+    ensures { λ r. ⌜ r ≡ depthWord v d ⌝ }
+{
+    v / 2048 * 2048 + d * 256 + v % 256
+}
+
+fn pair_word(v: u32, a: u32, b: u32) -> u32
+    requires { ⌜ (a < 4096) × (b < 4096) ⌝ }
+    ensures { λ r. ⌜ r ≡ pairWord v a b ⌝ }
+{
+    v / 268435456 * 268435456 + b * 65536 + v / 4096 % 16 * 4096 + a
+}
+
+// Layer n switched off, its other values kept.
+pub fn with_off(mut w: [u32; 52], n: usize) -> [u32; 52]
+    requires { ⌜ n < 8 ⌝ }
+    ensures { λ r. ⌜ r ≡ withOff w n ⌝ }
+{
+    let word = off_word(w[4 + 6 * n]);
+    w[4 + 6 * n] = word;
+    w
+}
+
+pub fn with_depth(mut w: [u32; 52], n: usize, d: u32) -> [u32; 52]
+    requires { ⌜ (n < 8) × (d < 8) ⌝ }
+    ensures { λ r. ⌜ r ≡ withDepth w n d ⌝ }
+{
+    let word = depth_word(w[4 + 6 * n], d);
+    w[4 + 6 * n] = word;
+    w
+}
+
+// Layer n's corner at (x, y).
+pub fn with_corner(mut w: [u32; 52], n: usize, x: u32, y: u32) -> [u32; 52]
+    requires { ⌜ (n < 8) × (x < 4096) × (y < 4096) ⌝ }
+    ensures { λ r. ⌜ r ≡ withCorner w n x y ⌝ }
+{
+    let word = pair_word(w[6 + 6 * n], x, y);
+    w[6 + 6 * n] = word;
+    w
+}
+
+pub fn with_size(mut w: [u32; 52], n: usize, width: u32, height: u32) -> [u32; 52]
+    requires { ⌜ (n < 8) × (width < 4096) × (height < 4096) ⌝ }
+    ensures { λ r. ⌜ r ≡ withSize w n width height ⌝ }
+{
+    let word = pair_word(w[7 + 6 * n], width, height);
+    w[7 + 6 * n] = word;
+    w
+}
