@@ -13,10 +13,11 @@
 #include <stdlib.h>
 #include <string.h>
 
+#include "lent.h"
 #include "numbers.h"
 #include "spoonwing.h"
 
-enum { GUARD = 64, ROOM = 1 << 17, ALIGNMENT = 16, GUARD_BYTE = 0xA5 };
+enum { ROOM = 1 << 17 };
 enum { STATE, TABLES, PICTURES, OUTPUT, RUN, COUNT, BUFFERS };
 enum { DOOR, FIRST, SECOND, NULL_IF_EMPTY, LENGTHS, PAST = LENGTHS + BUFFERS,
        NUMBERS = PAST + BUFFERS };
@@ -25,12 +26,7 @@ enum { NEW, WRITE, SELECT, TOGGLE, START, PUT, FILL, PAINT, FRAME, LINE, PUT_RUN
        ERROR_WORD, FRAME_NUMBER, OUTPUT_WIDTH, OUTPUT_HEIGHT, STORE, BEGIN };
 
 /* What each buffer's owner has, and where copies of it are lent, between guards. */
-static uint8_t owned[BUFFERS][ROOM], space[BUFFERS][ROOM + 2 * (GUARD + ALIGNMENT)];
-
-struct lent {
-    uint8_t *bytes;
-    size_t length;
-};
+static uint8_t owned[BUFFERS][ROOM], space[BUFFERS][ROOM + BESIDE];
 
 /* ---- numbers in and out */
 
@@ -55,23 +51,11 @@ static void store(uint32_t buffer, uint32_t length)
 static struct lent lend(int buffer, const uint32_t *numbers)
 {
     size_t length = numbers[LENGTHS + buffer];
-    uint8_t *first = space[buffer] + GUARD;
     if (length > ROOM)
         exit(2);
-    first += (ALIGNMENT - (uintptr_t)first % ALIGNMENT) % ALIGNMENT;
-    first += numbers[PAST + buffer] % ALIGNMENT;
-    memset(first - GUARD, GUARD_BYTE, GUARD);
-    memcpy(first, owned[buffer], length);
-    memset(first + length, GUARD_BYTE, GUARD);
-    return (struct lent){first, length};
-}
-
-static int is_guard(const uint8_t *bytes)
-{
-    int is_kept = 1;
-    for (int i = 0; i < GUARD; i++)
-        is_kept &= bytes[i] == GUARD_BYTE;
-    return is_kept;
+    struct lent lent = between_guards(space[buffer], length, numbers[PAST + buffer]);
+    memcpy(lent.bytes, owned[buffer], length);
+    return lent;
 }
 
 /* Whether a call only reads a buffer. */

@@ -7,43 +7,27 @@
 #include <stdlib.h>
 #include <string.h>
 
+#include "lent.h"
 #include "numbers.h"
 #include "spoonwing.h"
 
-enum { GUARD = 64, ROOM = 1 << 10, ALIGNMENT = 16, GUARD_BYTE = 0xA5 };
+enum { ROOM = 1 << 10 };
 enum { IMAGE, LIST, COUNT, BUFFERS };
 enum { LENGTH, NULL_IF_EMPTY, PAST, NUMBERS = PAST + BUFFERS };
 
 enum { LIST_LENGTH = SPOONWING_CHANGES_LENGTH * sizeof(uint32_t) };
 
-static uint8_t space[BUFFERS][ROOM + 2 * (GUARD + ALIGNMENT)];
-
-struct lent {
-    uint8_t *bytes;
-    size_t length;
-};
+static uint8_t space[BUFFERS][ROOM + BESIDE];
 
 /* Bytes that come next in the input, between guards. */
 static struct lent lend(int buffer, size_t length, uint32_t past)
 {
-    uint8_t *first = space[buffer] + GUARD;
-    first += (ALIGNMENT - (uintptr_t)first % ALIGNMENT) % ALIGNMENT;
-    first += past % ALIGNMENT;
     if (length > ROOM)
         exit(2);
-    memset(first - GUARD, GUARD_BYTE, GUARD);
-    memset(first + length, GUARD_BYTE, GUARD);
-    if (fread(first, 1, length, stdin) != length)
+    struct lent lent = between_guards(space[buffer], length, past);
+    if (fread(lent.bytes, 1, length, stdin) != length)
         exit(2);
-    return (struct lent){first, length};
-}
-
-static int is_guard(const uint8_t *bytes)
-{
-    int is_kept = 1;
-    for (int i = 0; i < GUARD; i++)
-        is_kept &= bytes[i] == GUARD_BYTE;
-    return is_kept;
+    return lent;
 }
 
 static uint32_t is_touched(const struct lent *lent)

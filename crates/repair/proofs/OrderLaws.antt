@@ -21,7 +21,7 @@ use Rattle.lists.proofs.Tab.{length-tab, getD-tab, is-tab}
 use Rattle.words.specs.declared.fields.Layer.{Layer}
 use Rattle.words.specs.Fields.{lowOf, highOf, widthOf, heightOf, layerOf}
 use Rattle.words.specs.Check.{reservedBits, clashOf, clashAt, clashBelow}
-use Rattle.words.specs.Change.{offWord, depthWord, pairWord, withOff, withDepth, withCorner, withSize}
+use Rattle.words.specs.Change.{offWord, depthWord, pairWord, withOff, withDepth, withPair}
 use Rattle.words.proofs.ChangeLaws.{Kept, kept-off, on-free, atDepth, withOff-same, withDepth-alike}
 use Rattle.repair.specs.Steps.{clearedAt, cleared, isEmpty, emptyOff, emptiesOff, isLarge, largeOff, largesOff}
 use Rattle.repair.specs.Steps.{fitIn, fitAt, fit, holdsAt, heldAt, takenAt, freeOf, spreadAt, spread}
@@ -196,24 +196,15 @@ free-alike u v w x a b =
     zeroFrom-cong 8 (takenAt u w) (takenAt v x) 0 (λ d. ap₂ orElse (held-alike u v a d) (held-alike w x b d))
 
 -- a depth and a corner or a size, in either order
-pair-trade : (v : List ℕ) (n d k x y : ℕ) → (4 + 6 * n ≡ k → ⊥)
-    → set (withDepth v n d) k (pairWord (getD (withDepth v n d) k 0) x y)
-    ≡ withDepth (set v k (pairWord (getD v k 0) x y)) n d
-unfolding withDepth
-pair-trade v n d k x y ne =
+pair-trade : (j : ℕ) (v : List ℕ) (n d m x y : ℕ) → (4 + 6 * n ≡ j + 6 * m → ⊥)
+    → withPair j (withDepth v n d) m x y ≡ withDepth (withPair j v m x y) n d
+unfolding withDepth withPair
+pair-trade j v n d m x y ne =
     rw (
-      getD-set-other v (4 + 6 * n) k (depthWord (getD v (4 + 6 * n) 0) d) 0 (λ q. ne (sym q)),
-      getD-set-other v k (4 + 6 * n) (pairWord (getD v k 0) x y) 0 ne,
+      getD-set-other v (4 + 6 * n) (j + 6 * m) (depthWord (getD v (4 + 6 * n) 0) d) 0 (λ q. ne (sym q)),
+      getD-set-other v (j + 6 * m) (4 + 6 * n) (pairWord (getD v (j + 6 * m) 0) x y) 0 ne,
     )
-    (set-comm v (4 + 6 * n) k _ _ ne)
-
-corner-trade : (v : List ℕ) (n d m x y : ℕ) → withCorner (withDepth v n d) m x y ≡ withDepth (withCorner v m x y) n d
-unfolding withCorner
-corner-trade v n d m x y = pair-trade v n d (6 + 6 * m) x y (λ q. omega arith)
-
-size-trade : (v : List ℕ) (n d m x y : ℕ) → withSize (withDepth v n d) m x y ≡ withDepth (withSize v m x y) n d
-unfolding withSize
-size-trade v n d m x y = pair-trade v n d (7 + 6 * m) x y (λ q. omega arith)
+    (set-comm v (4 + 6 * n) (j + 6 * m) _ _ ne)
 
 lying-on : (t : Bool) (l k : Layer) → k .on ≡ l .on → choose t k l .on ≡ l .on
 lying-on true l k e = e
@@ -271,8 +262,8 @@ module _ (n m : ℕ) (v : List ℕ) (hn : n < 8) (hm : m < 8) (long : Long v) wh
           ap (λ (l : Layer). l .y) deep-layer,
           ap (λ (l : Layer). l .width) deep-layer,
           ap (λ (l : Layer). l .height) deep-layer,
-          corner-trade v n d m _ _,
-          size-trade _ n d m _ _,
+          pair-trade 6 v n d m _ _ (λ q. omega arith),
+          pair-trade 7 _ n d m _ _ (λ q. omega arith),
         )
         (go (layerOf v m .on) _ v)
       where

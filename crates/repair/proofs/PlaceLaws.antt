@@ -2,7 +2,7 @@
 -- each enabled layer lies on the screen. Assumes nothing.
 use mathlib.Core.Path.{_≡_, refl, sym, ap, _∙_}
 use mathlib.Core.Bool.{Bool, true, false, false≢true, not}
-use mathlib.Core.Logic.{⊎-elim}
+use mathlib.Core.Logic.{inl, inr, ⊎-elim}
 use mathlib.Core.List.{List}
 use Prim.Native.Nat.{ℕ, suc, _+_, _-_, _*_, _^_, _≤_, _<_}
 use native.Mathlib.Omega.{arith}
@@ -22,7 +22,7 @@ use Rattle.words.specs.Fields.{lowOf, highOf, widthOf, heightOf, layerOf}
 use Rattle.words.specs.Check.{reservedBits, Placed, Plain, Accepted}
 use Rattle.words.specs.Change.{withOff}
 use Rattle.words.proofs.CheckLaws.{not-zero, above-zero}
-use Rattle.words.proofs.ChangeLaws.{mask-free, Kept, kept-id, kept-then, kept-off, kept-corner, kept-size}
+use Rattle.words.proofs.ChangeLaws.{mask-free, Kept, kept-id, kept-then, kept-off, kept-pair}
 use Rattle.words.proofs.ChangeLaws.{switchedOff, lyingAt, withOff-same, fit-same, corner-own, size-own}
 use Rattle.repair.specs.Steps.{clearedAt, cleared, isEmpty, emptyOff, emptiesOff, isLarge, largeOff, largesOff}
 use Rattle.repair.specs.Steps.{placeIn, sizeIn, fitIn, fitAt, fit, placed}
@@ -171,8 +171,8 @@ module _ (n : ℕ) (v : List ℕ) (h : n < 8) (long : length v ≡ 52) where
       let b = fields-lt v n in
       let f = axis-field W (layerOf v n .width) (layerOf v n .x) (b .0) (b .2) in
       let g = axis-field H (layerOf v n .height) (layerOf v n .y) (b .1) (b .3) in
-      let k = kept-corner v n h long _ _ (f .0) (g .0) in (
-        kept-then k (kept-size _ n h (k .long ∙ long) _ _ (f .1) (g .1)),
+      let k = kept-pair v n h long 6 _ _ (inl refl) (f .0) (g .0) in (
+        kept-then k (kept-pair _ n h (k .long ∙ long) 7 _ _ (inr refl) (f .1) (g .1)),
         fit-same v n h long _ _ _ _ (f .0) (g .0) (f .1) (g .1),
       )
   fit-turn W H false = (kept-id n v, refl)

@@ -13,7 +13,7 @@ use Rattle.lists.proofs.Run.{run-hands}
 use Rattle.lists.proofs.Tab.{getD-tab}
 use Rattle.words.specs.Fields.{widthOf, heightOf, layerOf}
 use Rattle.words.specs.Check.{Plain, clashBelow}
-use Rattle.words.specs.Change.{pairWord, withOff, withDepth, withCorner, withSize}
+use Rattle.words.specs.Change.{pairWord, withOff, withDepth, withPair}
 use Rattle.repair.specs.Steps.{clearedAt, cleared, isEmpty, emptyOff, emptiesOff, isLarge, largeOff, largesOff}
 use Rattle.repair.specs.Steps.{placeIn, fitIn, fitAt, fit, spreadAt, spread, placed, mendOf}
 
@@ -59,7 +59,7 @@ module _ (i : ℕ) where
 
   -- 4
   pub fit-untouched : None 6 i → None 7 i → (w : List ℕ) → getD (fit w) i 0 ≡ getD w i 0
-  unfolding fit fitAt fitIn withSize withCorner
+  unfolding fit fitAt fitIn withPair
   fit-untouched places sizes =
       all-same fitAt (λ n v. choose-keeps (λ (x : List ℕ). getD x i 0 ≡ getD v i 0) (layerOf v n .on) _ v
       (λ _. let l = layerOf v n in

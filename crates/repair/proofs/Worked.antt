@@ -13,7 +13,7 @@ use Rattle.answers.specs.Answers.{done}
 use Rattle.words.specs.Fields.{layerOf}
 use Rattle.words.specs.Check.{screenOf, clashOf, clashAt, clashBelow}
 use Rattle.words.specs.Image.{wordsFrom}
-use Rattle.words.specs.Change.{withOff, withDepth, withCorner, withSize}
+use Rattle.words.specs.Change.{withOff, withDepth, withPair}
 use Rattle.repair.specs.Steps.{clearedAt, cleared, isEmpty, emptyOff, emptiesOff, isLarge, largeOff, largesOff}
 use Rattle.repair.specs.Steps.{placeIn, sizeIn, fitIn, fitAt, fit, holdsAt, heldAt, takenAt, freeOf, spreadAt}
 use Rattle.repair.specs.Steps.{spread, placed, mendOf}
@@ -50,7 +50,7 @@ two l m = image (l ++ m ++ off ++ off ++ off ++ off ++ off ++ off)
 unfoldable stepsOpen : Unit {0}
 unfolding mendOf placed cleared clearedAt emptiesOff emptyOff isEmpty largesOff largeOff isLarge fit fitAt fitIn placeIn
     sizeIn spread spreadAt freeOf takenAt heldAt holdsAt zeroFrom firstOf clashBelow clashAt clashOf layerOf withOff
-    withDepth withCorner withSize tab run
+    withDepth withPair tab run
 stepsOpen = tt
 
 -- all eight layers of depth 3: layer 0 keeps it, the others get those that none had, the smallest first

@@ -15,7 +15,7 @@ use Rattle.words.specs.declared.fields.Layer.{Layer}
 use Rattle.words.specs.Fields.{widthOf, heightOf, layerOf}
 use Rattle.words.specs.Order.{here}
 use Rattle.words.specs.Check.{reservedBits, clashBelow}
-use Rattle.words.specs.Change.{withOff, withDepth, withCorner, withSize}
+use Rattle.words.specs.Change.{withOff, withDepth, withPair}
 
 -- ---- 1. "clear reserved bits"
 
@@ -64,7 +64,7 @@ sizeIn S size = pick (ltb S size) S size
 -- layer n, which is l, along both
 unfoldable pub fitIn : ℕ → ℕ → Layer → ℕ → List ℕ → List ℕ
 fitIn W H l n w =
-    withSize (withCorner w n (placeIn W (l .x) (l .width)) (placeIn H (l .y) (l .height))) n
+    withPair 7 (withPair 6 w n (placeIn W (l .x) (l .width)) (placeIn H (l .y) (l .height))) n
     (sizeIn W (l .width)) (sizeIn H (l .height))
 
 unfoldable pub fitAt : ℕ → List ℕ → List ℕ

@@ -4,8 +4,7 @@ ghost use Prim.Native.Nat.{_<_};
 ghost use Rattle.words.specs.Fields.{widthOf, heightOf};
 ghost use Rattle.repair.specs.Steps.{placeIn, sizeIn, fitIn, fitAt};
 ghost use Rattle.repair.specs.Steps as steps;
-use words::change::with_corner;
-use words::change::with_size;
+use words::change::with_pair;
 use words::fields::Layer;
 use words::fields::layer_of;
 use words::fields::screen_height;
@@ -47,7 +46,7 @@ fn fit_in(w: [u32; 52], n: usize, l: Layer) -> [u32; 52]
     let y = place_in(down, l.y, l.height);
     let width = size_in(across, l.width);
     let height = size_in(down, l.height);
-    with_size(with_corner(w, n, x, y), n, width, height)
+    with_pair(7, with_pair(6, w, n, x, y), n, width, height)
 }
 
 fn fit_at(w: [u32; 52], n: usize) -> [u32; 52]

@@ -17,7 +17,7 @@ use Rattle.lists.proofs.First.{first-each}
 use Rattle.words.specs.declared.fields.Layer.{Layer}
 use Rattle.words.specs.Fields.{lowOf, highOf, decode, layerOf}
 use Rattle.words.specs.Check.{reservedBits, Plain}
-use Rattle.words.specs.Change.{offWord, depthWord, pairWord, withOff, withDepth, withCorner, withSize}
+use Rattle.words.specs.Change.{offWord, depthWord, pairWord, withOff, withDepth, withPair}
 
 -- ---- no reserved bit comes up
 
@@ -81,6 +81,10 @@ pub pair-free : (j n : ℕ) → (j ≡ 6) ⊎ (j ≡ 7) → n < 8
 unfolding firstOf
 pair-free j n (inl e) h = rw e (mask-free 6 0 12 refl n h, mask-free 6 16 12 refl n h)
 pair-free j n (inr e) h = rw e (mask-free 7 0 12 refl n h, mask-free 7 16 12 refl n h)
+
+pair-at : (j : ℕ) → (j ≡ 6) ⊎ (j ≡ 7) → (4 ≤ j) × (j ≤ 9)
+pair-at j (inl e) = (omega arith, omega arith)
+pair-at j (inr e) = (omega arith, omega arith)
 
 -- ---- what stays, where a word of layer n is replaced
 
@@ -148,17 +152,12 @@ module _ (w : List ℕ) (n : ℕ) (h : n < 8) (long : length w ≡ 52) where
   kept-depth d hd =
       kept-set 4 _ (omega arith) (omega arith) (depth-plain _ d _ hd (depth-free n h)) (λ s. omega arith)
 
-  pub kept-corner : (x y : ℕ) → x < 4096 → y < 4096 → Kept n w (withCorner w n x y)
-  unfolding withCorner
-  kept-corner x y p q =
-      let f = pair-free 6 n (inl refl) h in
-      kept-set 6 _ (omega arith) (omega arith) (pair-plain _ x y _ p q (f .0) (f .1)) (λ s. omega arith)
-
-  pub kept-size : (x y : ℕ) → x < 4096 → y < 4096 → Kept n w (withSize w n x y)
-  unfolding withSize
-  kept-size x y p q =
-      let f = pair-free 7 n (inr refl) h in
-      kept-set 7 _ (omega arith) (omega arith) (pair-plain _ x y _ p q (f .0) (f .1)) (λ s. omega arith)
+  pub kept-pair : (j a b : ℕ) → (j ≡ 6) ⊎ (j ≡ 7) → a < 4096 → b < 4096 → Kept n w (withPair j w n a b)
+  unfolding withPair
+  kept-pair j a b s p q =
+      let f = pair-free j n s h in
+      let k = pair-at j s in
+      kept-set j _ (k .0) (k .1) (pair-plain _ a b _ p q (f .0) (f .1)) (λ s. omega arith)
 
 -- ---- the layer itself
 
@@ -269,8 +268,8 @@ module _ (w : List ℕ) (n : ℕ) (h : n < 8) (long : length w ≡ 52) where
 
   -- its corner and its size together
   pub fit-same : (x y a b : ℕ) → x < 4096 → y < 4096 → a < 4096 → b < 4096
-      → layerOf (withSize (withCorner w n x y) n a b) n ≡ lyingAt (layerOf w n) x y a b
-  unfolding withSize withCorner layerOf
+      → layerOf (withPair 7 (withPair 6 w n x y) n a b) n ≡ lyingAt (layerOf w n) x y a b
+  unfolding withPair layerOf
   fit-same x y a b hx hy ha hb =
       let p : ℕ = pairWord (getD w (6 + 6 * n) 0) x y in
       let v : List ℕ = set w (6 + 6 * n) p in
@@ -293,11 +292,16 @@ module _ (w : List ℕ) (n : ℕ) (h : n < 8) (long : length w ≡ 52) where
         pair-high (getD v (7 + 6 * n) 0) a b ha hb,
       )
 
--- its own corner and its own size put again
-pub corner-own : (w : List ℕ) (n : ℕ) → withCorner w n (layerOf w n .x) (layerOf w n .y) ≡ w
-unfolding withCorner layerOf
-corner-own w n = rw (pair-own (getD w (6 + 6 * n) 0)) (set-getD w (6 + 6 * n) 0)
+-- its own two numbers put again in a word
+pair-same : (j : ℕ) (w : List ℕ) (n : ℕ)
+    → withPair j w n (lowOf (getD w (j + 6 * n) 0)) (highOf (getD w (j + 6 * n) 0)) ≡ w
+unfolding withPair
+pair-same j w n = rw (pair-own (getD w (j + 6 * n) 0)) (set-getD w (j + 6 * n) 0)
 
-pub size-own : (w : List ℕ) (n : ℕ) → withSize w n (layerOf w n .width) (layerOf w n .height) ≡ w
-unfolding withSize layerOf
-size-own w n = rw (pair-own (getD w (7 + 6 * n) 0)) (set-getD w (7 + 6 * n) 0)
+pub corner-own : (w : List ℕ) (n : ℕ) → withPair 6 w n (layerOf w n .x) (layerOf w n .y) ≡ w
+unfolding layerOf
+corner-own w n = pair-same 6 w n
+
+pub size-own : (w : List ℕ) (n : ℕ) → withPair 7 w n (layerOf w n .width) (layerOf w n .height) ≡ w
+unfolding layerOf
+size-own w n = pair-same 7 w n

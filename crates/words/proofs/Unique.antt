@@ -11,8 +11,7 @@ use Rattle.words.proofs.fields.active_bank.Reads as active_bank
 use Rattle.words.proofs.fields.layer_of.Reads as layer_of
 use Rattle.words.proofs.change.with_off.Reads as with_off
 use Rattle.words.proofs.change.with_depth.Reads as with_depth
-use Rattle.words.proofs.change.with_corner.Reads as with_corner
-use Rattle.words.proofs.change.with_size.Reads as with_size
+use Rattle.words.proofs.change.with_pair.Reads as with_pair
 use Rattle.words.proofs.image.word_at.Reads as word_at
 use Rattle.words.proofs.image.words_at.Reads as words_at
 
@@ -49,8 +48,5 @@ with-off-unique κs i a b e f p q = meet p q
 pub with-depth-unique : (κs i a b e f : _) → with_depth.Post κs i a e → with_depth.Post κs i b f → a ≡ b
 with-depth-unique κs i a b e f p q = meet p q
 
-pub with-corner-unique : (κs i a b e f : _) → with_corner.Post κs i a e → with_corner.Post κs i b f → a ≡ b
-with-corner-unique κs i a b e f p q = meet p q
-
-pub with-size-unique : (κs i a b e f : _) → with_size.Post κs i a e → with_size.Post κs i b f → a ≡ b
-with-size-unique κs i a b e f p q = meet p q
+pub with-pair-unique : (κs i a b e f : _) → with_pair.Post κs i a e → with_pair.Post κs i b f → a ≡ b
+with-pair-unique κs i a b e f p q = meet p q

@@ -28,10 +28,6 @@ withOff w n = set w (4 + 6 * n) (offWord (getD w (4 + 6 * n) 0))
 unfoldable pub withDepth : List ℕ → ℕ → ℕ → List ℕ
 withDepth w n d = set w (4 + 6 * n) (depthWord (getD w (4 + 6 * n) 0) d)
 
--- at (x, y)
-unfoldable pub withCorner : List ℕ → ℕ → ℕ → ℕ → List ℕ
-withCorner w n x y = set w (6 + 6 * n) (pairWord (getD w (6 + 6 * n) 0) x y)
-
--- so wide and so high
-unfoldable pub withSize : List ℕ → ℕ → ℕ → ℕ → List ℕ
-withSize w n a b = set w (7 + 6 * n) (pairWord (getD w (7 + 6 * n) 0) a b)
+-- with a and b in its word j+6n: x and y in 6+6n, width and height in 7+6n
+unfoldable pub withPair : ℕ → List ℕ → ℕ → ℕ → ℕ → List ℕ
+withPair j w n a b = set w (j + 6 * n) (pairWord (getD w (j + 6 * n) 0) a b)

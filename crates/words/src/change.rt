@@ -1,7 +1,7 @@
 // The 52 words with a field of one layer replaced. No other file writes a field of a word.
 ghost use mathlib.Core.Path.{_≡_};
 ghost use Prim.Native.Nat.{_<_};
-ghost use Rattle.words.specs.Change.{offWord, depthWord, pairWord, withOff, withDepth, withCorner, withSize};
+ghost use Rattle.words.specs.Change.{offWord, depthWord, pairWord, withOff, withDepth, withPair};
 
 fn off_word(v: u32) -> u32
     ensures { λ r. ⌜ r ≡ offWord v ⌝ }
@@ -42,21 +42,12 @@ pub fn with_depth(mut w: [u32; 52], n: usize, d: u32) -> [u32; 52]
     w
 }
 
-// Layer n's corner at (x, y).
-pub fn with_corner(mut w: [u32; 52], n: usize, x: u32, y: u32) -> [u32; 52]
-    requires { ⌜ (n < 8) × (x < 4096) × (y < 4096) ⌝ }
-    ensures { λ r. ⌜ r ≡ withCorner w n x y ⌝ }
+// Layer n's corner, j being 6, or its size, j being 7.
+pub fn with_pair(j: usize, mut w: [u32; 52], n: usize, a: u32, b: u32) -> [u32; 52]
+    requires { ⌜ (j < 10) × (n < 8) × (a < 4096) × (b < 4096) ⌝ }
+    ensures { λ r. ⌜ r ≡ withPair j w n a b ⌝ }
 {
-    let word = pair_word(w[6 + 6 * n], x, y);
-    w[6 + 6 * n] = word;
-    w
-}
-
-pub fn with_size(mut w: [u32; 52], n: usize, width: u32, height: u32) -> [u32; 52]
-    requires { ⌜ (n < 8) × (width < 4096) × (height < 4096) ⌝ }
-    ensures { λ r. ⌜ r ≡ withSize w n width height ⌝ }
-{
-    let word = pair_word(w[7 + 6 * n], width, height);
-    w[7 + 6 * n] = word;
+    let word = pair_word(w[j + 6 * n], a, b);
+    w[j + 6 * n] = word;
     w
 }

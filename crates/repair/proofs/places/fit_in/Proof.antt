@@ -22,18 +22,18 @@ size-in-requires c κs = search needs
 size-in-requires-2 : tie.Need-size-in-requires-2
 size-in-requires-2 c κs = search needs
 
-with-corner-requires : tie.Need-with-corner-requires
-with-corner-requires c κs = search needs
+with-pair-requires : tie.Need-with-pair-requires
+with-pair-requires c κs = search needs
 
-with-size-requires : tie.Need-with-size-requires
-with-size-requires c κs = search needs
+with-pair-requires-2 : tie.Need-with-pair-requires-2
+with-pair-requires-2 c κs = search needs
 
 returns : tie.Need-returns
 unfolding fitIn
 returns c =
     rw (
-      c .with-size .ensures,
-      c .before .with-corner .ensures,
+      c .with-pair2 .ensures,
+      c .before .with-pair .ensures,
       c .before .before .size-in2 .ensures .0,
       c .before .before .before .size-in .ensures .0,
       c .before .before .before .before .place-in2 .ensures .0,
@@ -52,6 +52,6 @@ fit-in-spec =
     place-in-requires-2
     size-in-requires
     size-in-requires-2
-    with-corner-requires
-    with-size-requires
+    with-pair-requires
+    with-pair-requires-2
     returns)

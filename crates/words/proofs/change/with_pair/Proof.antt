@@ -1,8 +1,8 @@
--- `words::change::with_size` meets its contract: the store is `withSize`'s. Assumes nothing.
-use Rattle.words.specs.Change.{withSize}
+-- `words::change::with_pair` meets its contract: the store is `withPair`'s. Assumes nothing.
+use Rattle.words.specs.Change.{withPair}
 use borrow.Author.Needs.{needs}
-use Rattle.words.proofs.change.with_size.Statement.{statement}
-use Rattle.words.proofs.change.with_size.Tie as tie
+use Rattle.words.proofs.change.with_pair.Statement.{statement}
+use Rattle.words.proofs.change.with_pair.Tie as tie
 
 mul-pair-word : tie.Need-mul-pair-word
 mul-pair-word c = search needs
@@ -32,11 +32,11 @@ array-write-w : tie.Need-array-write-w
 array-write-w c = search needs
 
 returns : tie.Need-returns
-unfolding withSize
+unfolding withPair
 returns c = rw (c .pair-word .ensures)
 
-pub with-size-spec : {M : Type 1} → statement M
-with-size-spec =
+pub with-pair-spec : {M : Type 1} → statement M
+with-pair-spec =
     tie.close
     (tie.spec
     mul-pair-word
