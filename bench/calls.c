@@ -43,12 +43,14 @@ static void check(int is_right, const char *name)
     exit(1);
 }
 
+/* What is refused on both sides would leave the output as it was. */
 static void check_work(int work)
 {
     struct kept *kept = new_kept(work);
+    int paints = work == SMALL_FRAME || work == SMALL_LINE;
     do_work(kept, work, PROVED);
     do_work(kept, work, PLAIN);
-    check(is_alike(kept), WORK_NAME[work]);
+    check(is_alike(kept) && paints == (kept->output[PIXEL - 1] == 255), WORK_NAME[work]);
     drop_kept(kept);
 }
 

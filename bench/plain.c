@@ -5,6 +5,7 @@
 
 #include "list.h"
 #include "painter.h"
+#include "plain.h"
 
 enum { CHANNELS = 3 };
 
@@ -52,58 +53,84 @@ static void flat_indexes(uint8_t *restrict under, const uint8_t *restrict indexe
 
 /* ---- layers */
 
-static uint8_t *row_of(const struct scene *scene, const struct layer *layer, uint32_t v,
-                       uint8_t *output)
+/* The lines of the layer that are on the canvas, counted from its first one. */
+static uint32_t first_line(const struct canvas *canvas, const struct layer *layer)
 {
-    return output + PIXEL * ((size_t)(layer->y + v) * scene->width + layer->x);
+    return canvas->top > layer->y ? canvas->top - layer->y : 0;
 }
 
-static void paint_picture(const struct scene *scene, int n, uint8_t *output)
+static uint32_t lines_end(const struct canvas *canvas, const struct layer *layer)
 {
-    const struct layer *layer = &scene->layer[n];
-    for (uint32_t v = 0; v < layer->height; v++) {
-        uint8_t *under = row_of(scene, layer, v, output);
-        const uint8_t *over = scene->pixels[n] + (size_t)PIXEL * v * layer->width;
+    uint32_t end = canvas->top + canvas->lines;
+    if (end <= layer->y)
+        return 0;
+    return end - layer->y < layer->height ? end - layer->y : layer->height;
+}
+
+static uint8_t *row_of(const struct canvas *canvas, const struct layer *layer, uint32_t v)
+{
+    uint32_t y = layer->y + v - canvas->top;
+    return canvas->output + PIXEL * ((size_t)y * canvas->width + layer->x);
+}
+
+static void lay_picture(const struct canvas *canvas, const struct laid *laid)
+{
+    const struct layer *layer = &laid->layer;
+    uint32_t end = lines_end(canvas, layer);
+    for (uint32_t v = first_line(canvas, layer); v < end; v++) {
+        uint8_t *under = row_of(canvas, layer, v);
+        const uint8_t *over = laid->pixels + (size_t)PIXEL * v * layer->width;
         if (layer->has_global_alpha)
-            flat_row(under, over, layer->width, scene->alpha[n]);
+            flat_row(under, over, layer->width, laid->alpha);
         else
             own_row(under, over, layer->width);
     }
 }
 
-static void paint_list(const struct scene *scene, int n, uint8_t *output, uint8_t *indexes)
+/* The list is drawn whole, also for one line. */
+static void lay_list(const struct canvas *canvas, const struct laid *laid)
 {
-    const struct layer *layer = &scene->layer[n];
-    const uint8_t *bank = bank_of(scene, n), *colours = bank + COLOURS_AT;
-    draw_list(bank, scene->bits, layer->width, layer->height, indexes);
-    for (uint32_t v = 0; v < layer->height; v++) {
-        uint8_t *under = row_of(scene, layer, v, output);
-        const uint8_t *row = indexes + (size_t)v * layer->width;
+    const struct layer *layer = &laid->layer;
+    const uint8_t *colours = laid->bank + COLOURS_AT;
+    uint32_t first = first_line(canvas, layer), end = lines_end(canvas, layer);
+    if (first < end)
+        draw_list(laid->bank, laid->bits, layer->width, layer->height, canvas->indexes);
+    for (uint32_t v = first; v < end; v++) {
+        uint8_t *under = row_of(canvas, layer, v);
+        const uint8_t *row = canvas->indexes + (size_t)v * layer->width;
         if (layer->has_global_alpha)
-            flat_indexes(under, row, colours, layer->width, scene->alpha[n]);
+            flat_indexes(under, row, colours, layer->width, laid->alpha);
         else
             own_indexes(under, row, colours, layer->width);
     }
 }
 
+void lay(const struct canvas *canvas, const struct laid *laid)
+{
+    if (laid->layer.is_graphics)
+        lay_list(canvas, laid);
+    else
+        lay_picture(canvas, laid);
+}
+
 /* ---- the frame */
 
-static void fill(const struct scene *scene, uint8_t *output)
+void fill_canvas(const struct canvas *canvas, const uint8_t ground[3])
 {
-    uint8_t pixel[PIXEL] = {scene->ground[0], scene->ground[1], scene->ground[2], 255};
-    size_t length = frame_length(scene);
+    uint8_t pixel[PIXEL] = {ground[0], ground[1], ground[2], 255};
+    size_t length = (size_t)PIXEL * canvas->width * canvas->lines;
     for (size_t i = 0; i < length; i += PIXEL)
-        memcpy(output + i, pixel, PIXEL);
+        memcpy(canvas->output + i, pixel, PIXEL);
 }
 
 static void paint(const struct scene *scene, uint8_t *output, void *indexes)
 {
-    fill(scene, output);
+    struct canvas canvas = {output, scene->width, 0, scene->height, indexes};
+    fill_canvas(&canvas, scene->ground);
     for (int n = 0; n < scene->layers; n++) {
-        if (scene->layer[n].is_graphics)
-            paint_list(scene, n, output, indexes);
-        else
-            paint_picture(scene, n, output);
+        struct laid laid = {scene->layer[n], scene->alpha[n], scene->pixels[n], bank_of(scene, n),
+                            scene->bits};
+        lay(&canvas, &laid);
     }
 }
 

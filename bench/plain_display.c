@@ -30,6 +30,19 @@ uint32_t plain_write_run(struct plain_display *display, const uint8_t *run, size
     return SPOONWING_DONE;
 }
 
+/* ---- the error word */
+
+uint32_t plain_toggle(struct plain_display *display, uint32_t bits)
+{
+    display->errors ^= bits;
+    return SPOONWING_DONE;
+}
+
+uint32_t plain_error_word(const struct plain_display *display)
+{
+    return display->errors;
+}
+
 /* ---- the check of a start */
 
 static int has_reserved(const uint32_t *words)
@@ -175,28 +188,48 @@ uint32_t plain_put_run(struct plain_display *display, uint8_t *tables, size_t le
     return *done == run_length ? SPOONWING_DONE : full(display);
 }
 
-/* ---- painting */
+/* ---- what painting refuses */
 
 static size_t pixel_bytes(uint32_t size)
 {
     return (size_t)PIXEL * low_half(size) * high_half(size);
 }
 
-uint32_t plain_refusal(const struct plain_display *display, uint32_t low, uint32_t high,
-                       size_t tables_length, size_t pictures_length, size_t output_length)
+/* 6 or 14. */
+static uint32_t lent_refusal(const struct plain_display *display, const struct lent *lent)
 {
-    size_t output = pixel_bytes(display->active[1]), pictures = 0;
+    size_t pictures = 0;
+    if (lent->tables_length != tables_asked(display))
+        return SPOONWING_BAD_TABLES_LENGTH;
+    for (int n = 0; n < LAYERS; n++) {
+        const uint32_t *layer = display->active + layer_at(n);
+        pictures += is_enabled(layer) && !is_graphics(layer) ? pixel_bytes(layer[3]) : 0;
+    }
+    return lent->pictures_length == pictures ? SPOONWING_DONE : SPOONWING_BAD_PICTURES_LENGTH;
+}
+
+uint32_t plain_refusal(const struct plain_display *display, uint32_t low, uint32_t high,
+                       const struct lent *lent, size_t output_length)
+{
+    size_t output = pixel_bytes(display->active[1]);
     if (low > high || high > LAYERS)
         return SPOONWING_NO_BAND;
     if (output == 0)
         return SPOONWING_NO_SIZE;
     if (output_length != output)
         return SPOONWING_BAD_OUTPUT_LENGTH;
-    if (tables_length != tables_asked(display))
-        return SPOONWING_BAD_TABLES_LENGTH;
-    for (int n = 0; n < LAYERS; n++) {
-        const uint32_t *layer = display->active + layer_at(n);
-        pictures += is_enabled(layer) && !is_graphics(layer) ? pixel_bytes(layer[3]) : 0;
-    }
-    return pictures_length == pictures ? SPOONWING_DONE : SPOONWING_BAD_PICTURES_LENGTH;
+    return lent_refusal(display, lent);
+}
+
+uint32_t plain_line_refusal(const struct plain_display *display, uint32_t y,
+                            const struct lent *lent, size_t output_length)
+{
+    uint32_t screen = display->active[1];
+    if (is_empty(screen))
+        return SPOONWING_NO_SIZE;
+    if (y >= high_half(screen))
+        return SPOONWING_NO_LINE;
+    if (output_length != PIXEL * low_half(screen))
+        return SPOONWING_BAD_OUTPUT_LENGTH;
+    return lent_refusal(display, lent);
 }

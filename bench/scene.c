@@ -97,8 +97,7 @@ static uint8_t *list_pixels(const struct scene *scene, int n)
 
 /* ---- the whole */
 
-/* A layer's alpha at a frame number. */
-static uint8_t faded(const struct layer *layer, uint32_t frame)
+uint8_t faded(const struct layer *layer, uint32_t frame)
 {
     uint32_t length = layer->fade_length, gone = frame - layer->fade_start;
     if (length == 0 || gone >= UINT32_C(1) << 31)

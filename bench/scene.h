@@ -42,6 +42,9 @@ struct scene *sealed(struct scene *scene);
 
 void drop_scene(struct scene *scene);
 
+/* A layer's alpha at a frame number. */
+uint8_t faded(const struct layer *layer, uint32_t frame);
+
 /* The bank of a graphics layer. */
 const uint8_t *bank_of(const struct scene *scene, int layer);
 

@@ -148,3 +148,32 @@ struct scene *full_list(uint32_t width, uint32_t height)
 {
     return list_of(width, height, INSTRUCTIONS);
 }
+
+/* ---- a small frame */
+
+/* An outline on glass. */
+static void add_outline(struct scene *scene)
+{
+    enum { PANE, LINE };
+    struct bank bank = add_list(scene, (struct layer){.width = 8, .height = 4});
+    set_colour(&bank, PANE, GLASS);
+    set_colour(&bank, LINE, FOAM);
+    draw_box(&bank, 0, 0, 8, 4, 1, LINE);
+}
+
+/* Its pictures are those of a smaller screen. */
+struct scene *small_frame(void)
+{
+    static const uint32_t depth[MOST_LAYERS] = {5, 2, 7, 0, 4, 1, 6, 3};
+    struct scene *scene = new_scene(4, 4, 4, RANDOM_ALPHA);
+    scene->width = scene->height = 16;
+    while (scene->layers < MOST_LAYERS)
+        add_outline(scene);
+    for (uint32_t n = 0; n < MOST_LAYERS; n++) {
+        struct layer *layer = &scene->layer[n];
+        layer->depth = depth[n];
+        layer->x = 4 * (n % 3);
+        layer->y = 3 * (n % 5);
+    }
+    return sealed(scene);
+}

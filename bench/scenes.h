@@ -21,4 +21,8 @@ struct scene *eight_layers(uint32_t width, uint32_t height);
 struct scene *list_of(uint32_t width, uint32_t height, int instructions);
 struct scene *full_list(uint32_t width, uint32_t height);
 
+/* 16 by 16 with eight layers, four pictures and four lists. Their depths do not rise with their
+ * numbers, so it is for kept displays and not for painters. */
+struct scene *small_frame(void);
+
 #endif

@@ -3,7 +3,7 @@ use Prim.Native.Nat.{ℕ, _+_, _%_, _^_, _<_}
 use mathlib.Core.Path.{_≡_, refl, ap, ap₂}
 use mathlib.Core.Bool.{true, false}
 use mathlib.Core.List.{List}
-use borrow.Author.Tests.{lt-ltb}
+use borrow.Author.Tests.{ne-eqb, lt-ltb}
 use lib.Dec.{eqb}
 use lib.ListN.{length}
 use Rattle.lists.proofs.Choice.{choose-keeps}
@@ -50,6 +50,11 @@ module _ (d : Display) where
   pub start-passed : updateOf (d .pending) ≡ true → checkOf (d .pending) ≡ done → startOf d
       ≡ told (withActive (stepped d) (d .pending)) done
   start-passed u e = rw (u, e)
+
+  -- and words that do not pass leave the active ones, and what is held of them
+  pub start-refused : updateOf (d .pending) ≡ true → (checkOf (d .pending) ≡ done → ⊥)
+      → startOf d ≡ told (stepped d) (checkOf (d .pending))
+  start-refused u ne = rw (u, ne-eqb _ _ ne)
 
   -- ---- select: from the first byte on, also of the bank that is selected already
 

@@ -18,21 +18,36 @@ use Rattle.lists.proofs.Little.{words-turn, words-bytes}
 use Rattle.answers.specs.Answers.{stateLength}
 use Rattle.profiles.specs.Profile.{profileOf}
 use Rattle.words.specs.Image.{wordsFrom}
+use Rattle.order.specs.declared.Layout.{Layout}
+use Rattle.order.specs.Layout.{layoutOf, noLayers}
 use Rattle.display.specs.declared.Display.{Display}
 use Rattle.display.specs.declared.Told.{Told}
 use Rattle.display.specs.State.{display, selectionOf}
-use Rattle.display.specs.Doors.{stateLen, takenOf, lastWords, stateWords, stateBytes, doorAnswer, doorState}
+use Rattle.display.specs.Doors.{withLayout, stateLen, takenOf, lastWords, stateWords, stateBytes, doorAnswer, doorState}
 use Rattle.display.specs.Doors.{doorBuffer, doorRead}
+use Rattle.display.specs.Reached.{Arranged}
 
 -- ---- out of bytes
 
-pub taken-all : (s pending active : List ℕ) (frame errors word number place chosen : ℕ) → pending ≡ wordsFrom s 0
-    → active ≡ wordsFrom s 208 → frame ≡ littleAt s 416 → errors ≡ littleAt s 420 → word ≡ littleAt s 424
+pub bare-all : (s pending active : List ℕ) (frame errors word number place chosen : ℕ) (layout : Layout)
+    → pending ≡ wordsFrom s 0 → active ≡ wordsFrom s 208 → frame ≡ littleAt s 416 → errors ≡ littleAt s 420 → word ≡ littleAt s 424
     → number ≡ littleAt s 428 → place ≡ littleAt s 432 → chosen ≡ littleAt s 436
-    → display pending active frame errors (selectionOf (ltb 0 word) number place) (profileOf (eqb (chosen % 2) 1))
-    ≡ takenOf s
+    → layout ≡ noLayers
+    → display pending active frame errors (selectionOf (ltb 0 word) number place) (profileOf (eqb (chosen % 2) 1)) layout
+    ≡ withLayout (takenOf s) noLayers
 unfolding takenOf
-taken-all s pending active frame errors word number place chosen p a f e m n o c = rw (p, a, f, e, m, n, o, c)
+bare-all s pending active frame errors word number place chosen layout p a f e m n o c l = rw (p, a, f, e, m, n, o, c, l)
+
+-- with what is held worked out afresh from the active words it is the whole state
+pub taken-all : (s : List ℕ) (d : Display) (layout : Layout) → d ≡ withLayout (takenOf s) noLayers
+    → layout ≡ layoutOf (d .active) → withLayout d layout ≡ takenOf s
+unfolding takenOf
+taken-all s d layout e l = rw (l, e)
+
+-- which painting asks for
+pub taken-arranged : (s : List ℕ) (d : Display) → d ≡ takenOf s → Arranged d
+unfolding takenOf
+taken-arranged s d e = rw e
 
 -- ---- the words of a state, by their number
 
@@ -80,19 +95,40 @@ state-bytes d l p₁ p₂ p₃ made soft p a long e f e₁ e₂ e₃ =
 
 -- ---- the cases of a door
 
+-- what a host cannot tell apart: the answers are the same, and so are the states as bytes
+pub record Alike (t u : Told) : Type 0 where
+  pub answer : t .answer ≡ u .answer
+  pub state : stateBytes (t .state) ≡ stateBytes (u .state)
+
+-- what is done with a state is the call, whatever is held for painting
+pub record Blind (does call : Display → Told) : Type 0 where
+  pub alike : (d : Display) (l : Layout) → Alike (does (withLayout d l)) (call d)
+
 module _ (s : List ℕ) (call : Display → Told) where
   pub door-length : (length s ≡ stateLen → ⊥) → (stateLength ≡ doorAnswer s call) × (s ≡ doorState s call)
   unfolding doorAnswer doorState
   door-length ne = (rw (ne-eqb _ _ ne), rw (ne-eqb _ _ ne))
 
+  pub door-alike : (t : Told) (r : ℕ) (s′ : List ℕ) → length s ≡ stateLen → Alike t (call (takenOf s)) → r ≡ t .answer
+      → s′ ≡ stateBytes (t .state) → (r ≡ doorAnswer s call) × (s′ ≡ doorState s call)
+  unfolding doorAnswer doorState
+  door-alike t r s′ long a p q = (rw (eq-eqb _ _ long) (p ∙ a .answer), rw (eq-eqb _ _ long) (q ∙ a .state))
+
+  -- of the whole state
   pub door-done : (d : Display) (t : Told) (r : ℕ) (s′ : List ℕ) → length s ≡ stateLen → d ≡ takenOf s → t ≡ call d
       → r ≡ t .answer → s′ ≡ stateBytes (t .state) → (r ≡ doorAnswer s call) × (s′ ≡ doorState s call)
-  unfolding doorAnswer doorState
-  door-done d t r s′ long at e p q =
-      let f : t ≡ call (takenOf s) = e ∙ ap call at in (
-        rw (eq-eqb _ _ long) (p ∙ ap (λ (x : Told). x .answer) f),
-        rw (eq-eqb _ _ long) (q ∙ ap (λ (x : Told). stateBytes (x .state)) f),
-      )
+  door-done d t r s′ long at e =
+      let f : t ≡ call (takenOf s) = e ∙ ap call at in
+      door-alike t r s′ long
+      (record { answer = ap (λ (x : Told). x .answer) f; state = ap (λ (x : Told). stateBytes (x .state)) f })
+
+  -- of one without what is held
+  pub door-bare : (does : Display → Told) → Blind does call → (d : Display) (t : Told) (r : ℕ) (s′ : List ℕ)
+      → length s ≡ stateLen → d ≡ withLayout (takenOf s) noLayers → t ≡ does d → r ≡ t .answer
+      → s′ ≡ stateBytes (t .state) → (r ≡ doorAnswer s call) × (s′ ≡ doorState s call)
+  door-bare does blind d t r s′ long at e =
+      let f : t ≡ does (withLayout (takenOf s) noLayers) = e ∙ ap does at in
+      door-alike t r s′ long (rw f (blind .alike (takenOf s) noLayers))
 
 module _ (s : List ℕ) (after : Display → List ℕ) (before : List ℕ) where
   pub buffer-length : (length s ≡ stateLen → ⊥) → before ≡ doorBuffer s after before
@@ -104,11 +140,17 @@ module _ (s : List ℕ) (after : Display → List ℕ) (before : List ℕ) where
   unfolding doorBuffer
   buffer-done d b long at e = rw (eq-eqb _ _ long) (e ∙ ap after at)
 
+  pub buffer-bare : ((x : Display) (l : Layout) → after (withLayout x l) ≡ after x) → (d : Display) (b : List ℕ)
+      → length s ≡ stateLen → d ≡ withLayout (takenOf s) noLayers → b ≡ after d → b ≡ doorBuffer s after before
+  unfolding doorBuffer
+  buffer-bare blind d b long at e = rw (eq-eqb _ _ long) (e ∙ ap after at ∙ blind (takenOf s) noLayers)
+
 module _ (s : List ℕ) (read : Display → ℕ) where
   pub read-length : (length s ≡ stateLen → ⊥) → 0 ≡ doorRead s read
   unfolding doorRead
   read-length ne = rw (ne-eqb _ _ ne)
 
-  pub read-done : (d : Display) (r : ℕ) → length s ≡ stateLen → d ≡ takenOf s → r ≡ read d → r ≡ doorRead s read
+  pub read-bare : ((x : Display) (l : Layout) → read (withLayout x l) ≡ read x) → (d : Display) (r : ℕ)
+      → length s ≡ stateLen → d ≡ withLayout (takenOf s) noLayers → r ≡ read d → r ≡ doorRead s read
   unfolding doorRead
-  read-done d r long at e = rw (eq-eqb _ _ long) (e ∙ ap read at)
+  read-bare blind d r long at e = rw (eq-eqb _ _ long) (e ∙ ap read at ∙ blind (takenOf s) noLayers)

@@ -16,6 +16,7 @@ use Rattle.profiles.specs.Profile.{oneBit, twoBits}
 use Rattle.words.specs.Fields.{updateOf}
 use Rattle.words.specs.Check.{checkOf}
 use Rattle.words.proofs.CheckLaws.{check-accepted}
+use Rattle.order.proofs.LayoutLaws.{layout-none}
 use Rattle.tables.specs.Geometry.{tablesLen}
 use Rattle.tables.specs.Selection.{endOf, namedBy}
 use Rattle.lists.proofs.Choice.{choose-keeps, lets-through, orElse-right}
@@ -32,7 +33,14 @@ SoundTold t = Sound (t .state)
 
 pub fresh-sound : (p : Profile) → Sound (fresh p)
 fresh-sound p =
-    record { pending = refl; active = refl; accepted = inl refl; selection = omega arith; place = omega arith }
+    record {
+      pending = refl;
+      active = refl;
+      accepted = inl refl;
+      selection = omega arith;
+      place = omega arith;
+      arranged = layout-none;
+    }
 
 pub new-sound : (bits : ℕ) → Sound (newOf bits .state)
 new-sound bits =
@@ -59,6 +67,7 @@ module _ (d : Display) (s : Sound d) where
         accepted = s .accepted;
         selection = s .selection;
         place = s .place;
+        arranged = s .arranged;
       })
       (λ h. s)
 
@@ -71,6 +80,7 @@ module _ (d : Display) (s : Sound d) where
         accepted = s .accepted;
         selection = ltb-true selection 64 h;
         place = omega arith;
+        arranged = s .arranged;
       })
       (λ h. s)
 
@@ -83,6 +93,7 @@ module _ (d : Display) (s : Sound d) where
         accepted = s .accepted;
         selection = s .selection;
         place = s .place;
+        arranged = s .arranged;
       }
 
   pub toggle-sound : (bits : ℕ) → Sound (toggleOf d bits .state)
@@ -96,6 +107,7 @@ module _ (d : Display) (s : Sound d) where
         accepted = s .accepted;
         selection = s .selection;
         place = s .place;
+        arranged = s .arranged;
       }
 
   pub start-sound : Sound (startOf d .state)
@@ -108,6 +120,7 @@ module _ (d : Display) (s : Sound d) where
         accepted = inr (check-accepted _ (eqb-true _ _ e));
         selection = s .selection;
         place = s .place;
+        arranged = refl;
       })
       (λ e. stepped-sound))
       (λ u. stepped-sound)
@@ -123,6 +136,7 @@ module _ (d : Display) (s : Sound d) where
         accepted = s .accepted;
         selection = s .selection;
         place = omega arith;
+        arranged = s .arranged;
       })
       (λ e. choose-keeps Sound (eqb (putAnswer d tables) bankFull) _ _
       (λ f. errors-sound _) (λ f. s))

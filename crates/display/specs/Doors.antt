@@ -11,6 +11,8 @@ use Rattle.lists.specs.Tab.{tab}
 use Rattle.answers.specs.Answers.{stateLength}
 use Rattle.profiles.specs.Profile.{profileOf}
 use Rattle.words.specs.Image.{wordsFrom}
+use Rattle.order.specs.declared.Layout.{Layout}
+use Rattle.order.specs.Layout.{layoutOf}
 use Rattle.display.specs.declared.Display.{Display}
 use Rattle.display.specs.declared.Told.{Told}
 use Rattle.display.specs.State.{display, selectionOf}
@@ -22,12 +24,16 @@ stateLen = 440
 -- ---- a state out of bytes
 
 -- every byte string stands for a state: something is selected where that word is not 0, and a glyph pixel has two bits where
--- the lowest bit of the last word is 1
+-- the lowest bit of the last word is 1. What is held of the active words is not among the bytes (02 K5)
 unfoldable pub takenOf : List ℕ → Display
 takenOf s =
     display (wordsFrom s 0) (wordsFrom s 208) (littleAt s 416) (littleAt s 420)
     (selectionOf (ltb 0 (littleAt s 424)) (littleAt s 428) (littleAt s 432))
-    (profileOf (eqb (littleAt s 436 % 2) 1))
+    (profileOf (eqb (littleAt s 436 % 2) 1)) (layoutOf (wordsFrom s 208))
+
+-- a state that holds something else of its active words: as bytes it is the same
+abbrev pub withLayout : Display → Layout → Display
+withLayout d layout = display (d .pending) (d .active) (d .frame) (d .errors) (d .selection) (d .profile) layout
 
 -- ---- bytes out of a state
 

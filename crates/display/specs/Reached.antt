@@ -6,6 +6,7 @@ use mathlib.Core.Logic.{_⊎_}
 use mathlib.Core.List.{List}
 use lib.ListN.{length, replicate}
 use Rattle.words.specs.Check.{Accepted}
+use Rattle.order.specs.Layout.{layoutOf}
 use Rattle.tables.specs.Selection.{endOf}
 use Rattle.display.specs.declared.Display.{Display}
 use Rattle.display.specs.State.{bitsIn, newOf, writeOf, selectOf, toggleOf, startOf}
@@ -29,11 +30,16 @@ pub data Reached : Display → Type 0 where
   by-line : {d : Display} (y : ℕ) (tables pictures out : List ℕ) → Reached d
       → Reached (lineTold d y tables pictures out .state)
 
+-- 02 K5: "Every operation keeps it equal to what would be worked out afresh from the active words"
+abbrev pub Arranged : Display → Type 0
+Arranged d = d .layout ≡ layoutOf (d .active)
+
 -- there are 52 words of each; the active ones are all 0 or accepted; the selection is in range,
--- and the place at most at its table's end
+-- and the place at most at its table's end; what is held for painting is that of the active words
 pub record Sound (d : Display) : Type 0 where
   pub pending : length (d .pending) ≡ 52
   pub active : length (d .active) ≡ 52
   pub accepted : (d .active ≡ replicate 52 0) ⊎ Accepted (d .active)
   pub selection : d .selection .number < 64
   pub place : d .selection .place ≤ endOf (bitsIn d) (d .selection .number)
+  pub arranged : Arranged d

@@ -1,5 +1,5 @@
 -- The state, and what new, write, select, toggle and start answer and leave: 01 "What the display is made
--- of", "Registers", "Answers by number", 02 K2. Assumes nothing.
+-- of", "Registers", "Answers by number", 02 K2, K5. Assumes nothing.
 use Prim.Native.Nat.{ℕ, _+_, _%_, _^_}
 use mathlib.Core.List.{List}
 use mathlib.Core.Bool.{Bool, true, false}
@@ -12,6 +12,8 @@ use Rattle.profiles.specs.declared.Profile.{Profile}
 use Rattle.profiles.specs.Profile.{oneBit, twoBits, bitsOf}
 use Rattle.words.specs.Fields.{updateOf}
 use Rattle.words.specs.Check.{checkOf}
+use Rattle.order.specs.declared.Layout.{Layout}
+use Rattle.order.specs.Layout.{layoutOf, noLayers}
 use Rattle.display.specs.declared.Display.{Display}
 use Rattle.tables.specs.declared.Selection.{Selection}
 use Rattle.display.specs.declared.Told.{Told}
@@ -19,10 +21,10 @@ use Rattle.display.specs.declared.Told.{Told}
 -- ---- the state, and a part of it replaced
 
 -- "The state holds pending registers, active registers, frame number (32 bits), error word (32 bits),
--- and a table selection with its place."; 02 K2: "The number of bits is chosen when a state is made": all parts of a
--- state, in this order
-abbrev pub display : List ℕ → List ℕ → ℕ → ℕ → Selection → Profile → Display
-display pending active frame errors selection profile =
+-- and a table selection with its place."; 02 K2: "The number of bits is chosen when a state is made"; K5: "The state
+-- shall hold it: enabled layers in rising depth, and how many.": all parts of a state, in this order
+abbrev pub display : List ℕ → List ℕ → ℕ → ℕ → Selection → Profile → Layout → Display
+display pending active frame errors selection profile layout =
     record {
       pending = pending;
       active = active;
@@ -30,6 +32,7 @@ display pending active frame errors selection profile =
       errors = errors;
       selection = selection;
       profile = profile;
+      layout = layout;
     }
 
 -- whether one was made, its number, and the place
@@ -38,7 +41,7 @@ selectionOf made number place = record { made = made; number = number; place = p
 
 -- "A fresh state has all numbers 0 and nothing selected.", of what was chosen
 abbrev pub fresh : Profile → Display
-fresh profile = display (replicate 52 0) (replicate 52 0) 0 0 (selectionOf false 0 0) profile
+fresh profile = display (replicate 52 0) (replicate 52 0) 0 0 (selectionOf false 0 0) profile noLayers
 
 -- how many bits a glyph pixel has
 abbrev pub bitsIn : Display → ℕ
@@ -46,23 +49,23 @@ bitsIn d = bitsOf (d .profile)
 
 -- the state with other pending words, all else as it was
 abbrev pub withPending : Display → List ℕ → Display
-withPending d pending = display pending (d .active) (d .frame) (d .errors) (d .selection) (d .profile)
+withPending d pending = display pending (d .active) (d .frame) (d .errors) (d .selection) (d .profile) (d .layout)
 
--- with other active words
+-- with other active words, and what is held of them worked out afresh
 abbrev pub withActive : Display → List ℕ → Display
-withActive d active = display (d .pending) active (d .frame) (d .errors) (d .selection) (d .profile)
+withActive d active = display (d .pending) active (d .frame) (d .errors) (d .selection) (d .profile) (layoutOf active)
 
 -- at another frame number
 abbrev pub withFrame : Display → ℕ → Display
-withFrame d frame = display (d .pending) (d .active) frame (d .errors) (d .selection) (d .profile)
+withFrame d frame = display (d .pending) (d .active) frame (d .errors) (d .selection) (d .profile) (d .layout)
 
 -- with another error word
 abbrev pub withErrors : Display → ℕ → Display
-withErrors d errors = display (d .pending) (d .active) (d .frame) errors (d .selection) (d .profile)
+withErrors d errors = display (d .pending) (d .active) (d .frame) errors (d .selection) (d .profile) (d .layout)
 
 -- with another selection and its place
 abbrev pub withSelection : Display → Selection → Display
-withSelection d selection = display (d .pending) (d .active) (d .frame) (d .errors) selection (d .profile)
+withSelection d selection = display (d .pending) (d .active) (d .frame) (d .errors) selection (d .profile) (d .layout)
 
 -- with a new selection, at place 0
 abbrev pub freshSelection : Display → ℕ → Display

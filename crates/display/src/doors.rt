@@ -4,18 +4,22 @@ ghost use mathlib.Core.Path.{_≡_};
 ghost use lib.ListN.{length};
 ghost use Rattle.lists.specs.Choice.{pick};
 ghost use Rattle.words.specs.Fields.{widthOf, heightOf};
+ghost use Rattle.order.specs.Layout.{noLayers};
 ghost use Rattle.display.specs.State.{newOf, writeOf, selectOf, toggleOf, startOf};
 ghost use Rattle.display.specs.Put.{putOf, putTables};
 ghost use Rattle.display.specs.Runs.{toldBy, putRunOf, putRunTables, writeRunOf};
 ghost use Rattle.display.specs.Paint.{fillTold, fillBytes, paintTold, paintBytes, frameTold, frameBytes};
 ghost use Rattle.display.specs.Paint.{lineTold, lineBytes};
-ghost use Rattle.display.specs.Doors.{stateLen, takenOf, stateBytes, doorAnswer, doorState};
+ghost use Rattle.display.specs.Doors.{withLayout, stateLen, takenOf, stateBytes, doorAnswer, doorState};
 ghost use Rattle.display.specs.Doors.{doorBuffer, doorRead};
 use crate::Display;
 use crate::Told;
+use crate::begun;
 use crate::told_by;
 use answers::STATE_LENGTH;
 use numbers::put_words;
+use order::layout_of;
+use order::no_layers;
 use profiles::Profile;
 use tables::Selection;
 use words::image::word_at;
@@ -27,9 +31,10 @@ const STATE_LEN: usize = 440;
 
 // ---- the state
 
-fn taken(state: &[u8]) -> Display
+// All but what is held for painting, which the bytes do not have and calls that paint nothing do not ask for.
+fn bare(state: &[u8]) -> Display
     requires { ⌜ length (now state) ≡ stateLen ⌝ }
-    ensures { λ r. ⌜ r ≡ takenOf (now (state .entry)) ⌝ }
+    ensures { λ r. ⌜ r ≡ withLayout (takenOf (now (state .entry))) noLayers ⌝ }
 {
     let pending = words_at(state, 0);
     let active = words_at(state, 208);
@@ -50,7 +55,19 @@ fn taken(state: &[u8]) -> Display
             place,
         },
         profile: Profile { soft },
+        layout: no_layers(),
     }
+}
+
+// The whole state: what is held is worked out afresh, whatever call made the bytes.
+fn taken(state: &[u8]) -> Display
+    requires { ⌜ length (now state) ≡ stateLen ⌝ }
+    ensures { λ r. ⌜ r ≡ takenOf (now (state .entry)) ⌝ }
+{
+    let mut d = bare(state);
+    let layout = layout_of(&d.active);
+    d.layout = layout;
+    d
 }
 
 fn flag_of(set: bool) -> u32
@@ -112,7 +129,7 @@ pub extern "C" fn spoonwing_display_write(state: &mut [u8], register: u32, value
     if state.len() != STATE_LEN {
         return STATE_LENGTH as u32;
     }
-    given(taken(state).write(register, value), state)
+    given(bare(state).write(register, value), state)
 }
 
 #[no_mangle]
@@ -123,7 +140,7 @@ pub extern "C" fn spoonwing_display_select(state: &mut [u8], selection: u32) -> 
     if state.len() != STATE_LEN {
         return STATE_LENGTH as u32;
     }
-    given(taken(state).select(selection), state)
+    given(bare(state).select(selection), state)
 }
 
 #[no_mangle]
@@ -134,7 +151,7 @@ pub extern "C" fn spoonwing_display_toggle(state: &mut [u8], bits: u32) -> u32
     if state.len() != STATE_LEN {
         return STATE_LENGTH as u32;
     }
-    given(taken(state).toggle(bits), state)
+    given(bare(state).toggle(bits), state)
 }
 
 #[no_mangle]
@@ -145,7 +162,7 @@ pub extern "C" fn spoonwing_display_start(state: &mut [u8]) -> u32
     if state.len() != STATE_LEN {
         return STATE_LENGTH as u32;
     }
-    given(taken(state).start(), state)
+    given(begun(bare(state)), state)
 }
 
 #[no_mangle]
@@ -158,7 +175,7 @@ pub extern "C" fn spoonwing_display_put(state: &mut [u8], tables: &mut [u8], byt
     if state.len() != STATE_LEN {
         return STATE_LENGTH as u32;
     }
-    given(taken(state).put(tables, byte), state)
+    given(bare(state).put(tables, byte), state)
 }
 
 #[no_mangle]
@@ -182,7 +199,7 @@ pub extern "C" fn spoonwing_display_put_run(
         *done = 0;
         return STATE_LENGTH as u32;
     }
-    let ran = taken(state).put_run(tables, run);
+    let ran = bare(state).put_run(tables, run);
     *done = ran.done;
     given(told_by(ran), state)
 }
@@ -199,7 +216,7 @@ pub extern "C" fn spoonwing_display_write_run(state: &mut [u8], run: &[u8], done
         *done = 0;
         return STATE_LENGTH as u32;
     }
-    let ran = taken(state).write_run(run);
+    let ran = bare(state).write_run(run);
     *done = ran.done;
     given(told_by(ran), state)
 }
@@ -214,7 +231,7 @@ pub extern "C" fn spoonwing_display_fill(state: &mut [u8], out: &mut [u8]) -> u3
     if state.len() != STATE_LEN {
         return STATE_LENGTH as u32;
     }
-    given(taken(state).fill(out), state)
+    given(bare(state).fill(out), state)
 }
 
 #[no_mangle]
@@ -292,7 +309,7 @@ pub extern "C" fn spoonwing_display_error_word(state: &[u8]) -> u32
     if state.len() != STATE_LEN {
         return 0;
     }
-    taken(state).error_word()
+    bare(state).error_word()
 }
 
 #[no_mangle]
@@ -302,7 +319,7 @@ pub extern "C" fn spoonwing_display_frame_number(state: &[u8]) -> u32
     if state.len() != STATE_LEN {
         return 0;
     }
-    taken(state).frame_number()
+    bare(state).frame_number()
 }
 
 #[no_mangle]
@@ -312,7 +329,7 @@ pub extern "C" fn spoonwing_display_output_width(state: &[u8]) -> u32
     if state.len() != STATE_LEN {
         return 0;
     }
-    taken(state).output_width() as u32
+    bare(state).output_width() as u32
 }
 
 #[no_mangle]
@@ -322,5 +339,5 @@ pub extern "C" fn spoonwing_display_output_height(state: &[u8]) -> u32
     if state.len() != STATE_LEN {
         return 0;
     }
-    taken(state).output_height() as u32
+    bare(state).output_height() as u32
 }

@@ -3,18 +3,24 @@
 ghost use mathlib.Core.Path.{_≡_};
 ghost use Rattle.profiles.specs.Profile.{profileOf};
 ghost use Rattle.words.specs.Fields.{widthOf, heightOf};
-ghost use Rattle.display.specs.State.{fresh, withFrame, withErrors, withPlace, told};
+ghost use Rattle.display.specs.State.{fresh, withErrors, withPlace, told};
+ghost use Rattle.display.specs.Doors.{withLayout};
 ghost use Rattle.display.specs.State.{newOf, writeOf, selectOf, toggleOf, startOf};
 ghost use Rattle.display.specs.Put.{putOf, putTables};
 ghost use Rattle.display.specs.Runs.{ran, toldBy, putRunOf, putRunTables, writeRunOf};
 ghost use Rattle.display.specs.Paint.{fillTold, fillBytes, paintTold, paintBytes, frameTold, frameBytes};
 ghost use Rattle.display.specs.Paint.{lineTold, lineBytes};
+ghost use Rattle.display.specs.Reached.{Arranged};
+ghost use Rattle.display.specs.Engine.Verdict.{verdictOf};
 use answers::DONE;
 use answers::GLYPH_BITS;
 use answers::NO_REGISTER;
 use answers::NO_SELECTION;
 use loads::Loaded;
 use loads::REGISTERS;
+use order::Layout;
+use order::layout_of;
+use order::no_layers;
 use profiles::Profile;
 use profiles::bits_of;
 use starts::refusal_of;
@@ -27,7 +33,8 @@ pub mod doors;
 
 const SELECTIONS: u32 = 64;
 
-// Only `new` and the calls below make one: its fields are closed to other crates.
+// Only `new` and the calls below make one: its fields are closed to other crates. So what painting asks of a state
+// (`Arranged`) is so of every one.
 pub struct Display {
     pending: [u32; 52],
     active: [u32; 52],
@@ -35,6 +42,8 @@ pub struct Display {
     errors: u32,
     selection: Selection,
     profile: Profile,
+    // What painting needs of the active words, worked out when they became so.
+    layout: Layout,
 }
 
 // What a call answers: the state afterwards, and 0 or the number of the refusal.
@@ -49,17 +58,6 @@ pub struct Ran {
     pub state: Display,
     pub answer: u8,
     pub done: usize,
-}
-
-// The state at a frame number, and an answer.
-fn at_frame(mut state: Display, frame: u32, answer: u8) -> Told
-    ensures { λ r. ⌜ r ≡ told (withFrame state frame) answer ⌝ }
-{
-    state.frame = frame;
-    Told {
-        state: state,
-        answer: answer,
-    }
 }
 
 // A run of puts, by what was loaded.
@@ -102,7 +100,47 @@ fn made(soft: bool, answer: u8) -> Told
             place: 0,
         },
         profile: Profile { soft },
+        layout: no_layers(),
     };
+    Told { state, answer }
+}
+
+// What a start makes of the pending words: whether they become the active ones, and its answer.
+struct Verdict {
+    passes: bool,
+    answer: u8,
+}
+
+fn verdict_on(pending: &[u32; 52]) -> Verdict
+    ensures { λ r. ⌜ r ≡ verdictOf (now (pending .entry)) ⌝ }
+{
+    if !is_update(pending) {
+        return Verdict {
+            passes: false,
+            answer: DONE,
+        };
+    }
+    let refusal = refusal_of(pending);
+    let passes = refusal == DONE;
+    Verdict {
+        passes,
+        answer: refusal,
+    }
+}
+
+// A start, but for what is held of the active words: a state in bytes does not hold it.
+fn begun(mut state: Display) -> Told
+    ensures { λ r. ⌜ r ≡ told (withLayout (startOf state .state) (state .layout)) (startOf state .answer) ⌝ }
+{
+    let frame = state.frame;
+    state.frame = std::num::wrapping_add_u32(frame, 1);
+    let pending = state.pending;
+    let verdict = verdict_on(&pending);
+    let answer = verdict.answer;
+    if verdict.passes {
+        state.active = pending;
+        return Told { state, answer };
+    }
     Told { state, answer }
 }
 
@@ -181,15 +219,22 @@ impl Display {
         let frame = self.frame;
         let next = std::num::wrapping_add_u32(frame, 1);
         let pending = self.pending;
-        if !is_update(&pending) {
-            return at_frame(self, next, DONE);
-        }
-        let refusal = refusal_of(&pending);
-        if refusal != DONE {
-            return at_frame(self, next, refusal);
+        let verdict = verdict_on(&pending);
+        let answer = verdict.answer;
+        self.frame = next;
+        if !verdict.passes {
+            return Told {
+                state: self,
+                answer,
+            };
         }
         self.active = pending;
-        at_frame(self, next, DONE)
+        let layout = layout_of(&pending);
+        self.layout = layout;
+        Told {
+            state: self,
+            answer,
+        }
     }
 
     // Stores a byte in the selected table and goes on to the next place. Refused, in this order, with 6
@@ -259,15 +304,18 @@ impl Display {
         pictures: &[u8],
         out: &mut [u8],
     ) -> Told
+        requires { ⌜ Arranged self ⌝ }
         ensures state { λ r. ⌜ r
             ≡ paintTold self low high (now (tables .entry)) (now (pictures .entry)) (now (out .entry)) ⌝ }
         ensures output { λ _. ⌜ now (out .exit)
             ≡ paintBytes self low high (now (tables .entry)) (now (pictures .entry)) (now (out .entry)) ⌝ }
     {
         let profile = self.profile;
+        let layout = self.layout;
         let painted = paint::band(
             profile,
             &self.active,
+            layout,
             self.frame,
             self.errors,
             low,
@@ -285,14 +333,17 @@ impl Display {
 
     // Paints a whole frame: a fill, and the layers of every depth. Refused as `paint` is, before the fill.
     pub fn frame(mut self, tables: &[u8], pictures: &[u8], out: &mut [u8]) -> Told
+        requires { ⌜ Arranged self ⌝ }
         ensures state { λ r. ⌜ r ≡ frameTold self (now (tables .entry)) (now (pictures .entry)) (now (out .entry)) ⌝ }
         ensures output { λ _. ⌜ now (out .exit)
             ≡ frameBytes self (now (tables .entry)) (now (pictures .entry)) (now (out .entry)) ⌝ }
     {
         let profile = self.profile;
+        let layout = self.layout;
         let painted = paint::frame(
             profile,
             &self.active,
+            layout,
             self.frame,
             self.errors,
             tables,
@@ -309,14 +360,17 @@ impl Display {
     // Paints line y of a whole frame into `out`, which has that line alone, whatever it held; the error bits are those
     // of the whole frame. Refused with 12, 15, 13, 6, 14 in this order; a refusal changes nothing.
     pub fn line(mut self, y: u32, tables: &[u8], pictures: &[u8], out: &mut [u8]) -> Told
+        requires { ⌜ Arranged self ⌝ }
         ensures state { λ r. ⌜ r ≡ lineTold self y (now (tables .entry)) (now (pictures .entry)) (now (out .entry)) ⌝ }
         ensures output { λ _. ⌜ now (out .exit)
             ≡ lineBytes self y (now (tables .entry)) (now (pictures .entry)) (now (out .entry)) ⌝ }
     {
         let profile = self.profile;
+        let layout = self.layout;
         let painted = paint::line(
             profile,
             &self.active,
+            layout,
             self.frame,
             self.errors,
             y,

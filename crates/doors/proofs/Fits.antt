@@ -43,6 +43,7 @@ use Rattle.display.specs.Runs.{lent, putOne, puts, putRunOf, writeOne, writes, 
 use Rattle.display.specs.Paint.{sceneWith, fillTold, paintTold, frameTold, lineTold}
 use Rattle.display.specs.Doors.{takenOf}
 use Rattle.display.proofs.Sound.{below-end}
+use Rattle.display.proofs.Arranged.{fresh-arranged}
 use Rattle.doors.specs.Rows.{AreWords, Fits, Ask, ask-new, ask-write, ask-select, ask-toggle, ask-start, ask-put}
 use Rattle.doors.specs.Rows.{ask-put-run, ask-write-run, ask-fill, ask-paint, ask-frame, ask-line, Typed, tellsOf}
 
@@ -60,6 +61,7 @@ taken-fits s b =
       errors = little-fits s b 420;
       number = little-fits s b 428;
       place = little-fits s b 432;
+      arranged = refl;
     }
 
 -- ---- the fresh states; one of them is that of zeros
@@ -80,6 +82,7 @@ fresh-fits p =
       errors = omega arith;
       number = omega arith;
       place = omega arith;
+      arranged = fresh-arranged p;
     }
 
 new-fits : (bits : ℕ) → Fits (newOf bits .state)
@@ -102,6 +105,7 @@ module _ (d : Display) (f : Fits d) where
         errors = f .errors;
         number = f .number;
         place = f .place;
+        arranged = refl;
       }
 
   pending-kept : (w : List ℕ) → length w ≡ 52 → AreWords w → Fits (withPending d w)
@@ -115,6 +119,7 @@ module _ (d : Display) (f : Fits d) where
         errors = f .errors;
         number = f .number;
         place = f .place;
+        arranged = f .arranged;
       }
 
   numbers-kept : (frame errors : ℕ) (c : Selection) → frame < 2 ^ 32 → errors < 2 ^ 32 → c .number < 2 ^ 32
@@ -129,6 +134,7 @@ module _ (d : Display) (f : Fits d) where
         errors = b;
         number = n;
         place = p;
+        arranged = f .arranged;
       }
 
   frame-kept : (frame : ℕ) → frame < 2 ^ 32 → Fits (withFrame d frame)

@@ -16,12 +16,13 @@ use Rattle.lists.proofs.Tab.{length-tab}
 use Rattle.lists.proofs.Little.{word-back}
 use Rattle.profiles.specs.Profile.{profileOf, oneBit}
 use Rattle.words.proofs.ImageLaws.{words-back}
+use Rattle.order.specs.Layout.{noLayers}
 use Rattle.display.specs.declared.Display.{Display}
 use Rattle.display.specs.declared.Told.{Told}
 use Rattle.display.specs.State.{display, selectionOf}
 use Rattle.display.specs.Doors.{stateLen, takenOf, lastWords, stateWords, stateBytes, doorAnswer, doorState}
 use Rattle.display.specs.Doors.{doorBuffer, doorRead}
-use Rattle.display.proofs.DoorLaws.{taken-all, in-pending, in-active, in-last}
+use Rattle.display.proofs.DoorLaws.{bare-all, taken-all, in-pending, in-active, in-last}
 use Rattle.laws.specs.Small.{first}
 use Rattle.doors.specs.Rows.{Fits, Holds, Ask, Typed, AllTyped, tellsOf, lentTo, leftBy, countBy}
 use Rattle.doors.specs.Rows.{Seen, seenOf}
@@ -50,8 +51,8 @@ taken-back d f =
     → v ≡ littleAt (tab 440 (littleBytes w)) o
     = λ i o v at b e h. e ∙ sym (word-back w (104 + i) 440 o (omega arith) (omega arith) (rw (← e) h)) in
     let r = in-last d (f .pending) (f .active) in
-    sym (taken-all (stateBytes d) (d .pending) (d .active) (d .frame) (d .errors) (pick (d .selection .made) 1 0)
-    (d .selection .number) (d .selection .place) (pick (d .profile .soft) 1 0)
+    sym (taken-all (stateBytes d) _ (d .layout) (bare-all (stateBytes d) (d .pending) (d .active) (d .frame) (d .errors)
+    (pick (d .selection .made) 1 0) (d .selection .number) (d .selection .place) (pick (d .profile .soft) 1 0) noLayers
     (words-back w (d .pending) 0 440 0 refl (omega arith) (f .pending) (f .pending-words)
     (λ i h. in-pending d (f .pending) i h ∙ ap (λ (n : ℕ). getD w n 0) (let q : i ≡ 0 + i = omega arith in q)))
     (words-back w (d .active) 52 440 208 refl (omega arith) (f .active) (f .active-words)
@@ -61,9 +62,9 @@ taken-back d f =
     (one 2 424 (pick (d .selection .made) 1 0) refl (omega arith) (r 2) (flag-fits (d .selection .made)))
     (one 3 428 (d .selection .number) refl (omega arith) (r 3) (f .number))
     (one 4 432 (d .selection .place) refl (omega arith) (r 4) (f .place))
-    (one 5 436 (pick (d .profile .soft) 1 0) refl (omega arith) (r 5) (flag-fits (d .profile .soft))))
+    (one 5 436 (pick (d .profile .soft) 1 0) refl (omega arith) (r 5) (flag-fits (d .profile .soft))) refl) (f .arranged))
     ∙ ap₂ (λ (b c : Bool). display (d .pending) (d .active) (d .frame) (d .errors)
-    (selectionOf b (d .selection .number) (d .selection .place)) (profileOf c))
+    (selectionOf b (d .selection .number) (d .selection .place)) (profileOf c) (d .layout))
     (sym (flag-back (d .selection .made))) (sym (choice-back (d .profile .soft)))
 
 pub length-bytes : (d : Display) → length (stateBytes d) ≡ stateLen

@@ -9,6 +9,7 @@ use Rattle.display.specs.State.{newOf, writeOf, selectOf, toggleOf, startOf}
 use Rattle.display.specs.Put.{putOf, putTables}
 use Rattle.display.specs.Runs.{toldBy, putRunOf, putRunTables, writeRunOf}
 use Rattle.display.specs.Paint.{fillTold, fillBytes, paintTold, paintBytes, frameTold, frameBytes, lineTold, lineBytes}
+use Rattle.display.specs.Reached.{Arranged}
 use Rattle.display.specs.Doors.{stateBytes, doorAnswer, doorState, doorBuffer, doorRead}
 
 -- ---- a state and its bytes
@@ -17,7 +18,7 @@ use Rattle.display.specs.Doors.{stateBytes, doorAnswer, doorState, doorBuffer, 
 abbrev pub AreWords : List ℕ → Type 0
 AreWords l = (i : ℕ) → getD l i 0 < 2 ^ 32
 
--- a state whose numbers fit their words, as the types of its parts have it
+-- a state whose numbers fit their words, as the types of its parts have it, and that holds what its active words say
 pub record Fits (d : Display) : Type 0 where
   pub pending : length (d .pending) ≡ 52
   pub active : length (d .active) ≡ 52
@@ -27,6 +28,7 @@ pub record Fits (d : Display) : Type 0 where
   pub errors : d .errors < 2 ^ 32
   pub number : d .selection .number < 2 ^ 32
   pub place : d .selection .place < 2 ^ 32
+  pub arranged : Arranged d
 
 -- lent bytes that hold a display
 pub record Holds (s : List ℕ) (d : Display) : Type 0 where

@@ -3,7 +3,10 @@
 use crate::buffers;
 use crate::print::figure;
 use crate::screen::screen;
+use crate::screen::started;
+use crate::screen::written;
 use display::Display;
+ghost use Rattle.display.specs.Reached.{Arranged};
 
 fn blend(name: &[u8], a: u8, over: u8, under: u8) {
     figure(name, mix::blend(a, over, under) as u32);
@@ -38,7 +41,10 @@ fn show_fade() {
 }
 
 // Puts bytes into a table, from its first on.
-fn load(state: Display, tables: &mut [u8], selection: u32, bytes: &[u8]) -> Display {
+fn load(state: Display, tables: &mut [u8], selection: u32, bytes: &[u8]) -> Display
+    requires { ⌜ Arranged state ⌝ }
+    ensures { λ r. ⌜ Arranged r ⌝ }
+{
     let mut told = state.select(selection);
     let mut i = 0;
     while i < bytes.len() {
@@ -49,7 +55,10 @@ fn load(state: Display, tables: &mut [u8], selection: u32, bytes: &[u8]) -> Disp
 }
 
 // A box 2..5 by 1..3 in colour 7, in bank 1 of controller 0; the rest of the list is END.
-fn load_box(state: Display, tables: &mut [u8], weight: u8) -> Display {
+fn load_box(state: Display, tables: &mut [u8], weight: u8) -> Display
+    requires { ⌜ Arranged state ⌝ }
+    ensures { λ r. ⌜ Arranged r ⌝ }
+{
     let list = [2, 80, 0, 160, 0, 0, 0, 0, 1, 48, 0, weight, 7, 0, 0, 0];
     let mut colours = [0u8; 32];
     colours[28] = 7;
@@ -58,12 +67,13 @@ fn load_box(state: Display, tables: &mut [u8], weight: u8) -> Display {
 }
 
 // A layer of 8 by 4 pixels all over its screen, drawn from bank 1, started.
-fn start_box(state: Display) -> Display {
-    let a = state.write(3, 257);
-    let b = a.state.write(4, 3);
-    let c = b.state.write(7, 4 * 65536 + 8);
-    let d = c.state.start();
-    d.state
+fn start_box(state: Display) -> Display
+    requires { ⌜ Arranged state ⌝ }
+    ensures { λ r. ⌜ Arranged r ⌝ }
+{
+    let a = written(state, 3, 257);
+    let b = written(a, 4, 3);
+    started(written(b, 7, 4 * 65536 + 8))
 }
 
 // A byte of the frame with the box. Channel 0 of a pixel is 7 where it is drawn.
@@ -84,10 +94,10 @@ fn show_box() {
 
 // Layer 0 at x 1900 of a screen that is 1920 wide, started.
 fn start_with_width(width: u32) -> u8 {
-    let a = screen(1080 * 65536 + 1920).write(4, 1);
-    let b = a.state.write(6, 1900);
-    let c = b.state.write(7, width);
-    let d = c.state.start();
+    let a = written(screen(1080 * 65536 + 1920), 4, 1);
+    let b = written(a, 6, 1900);
+    let c = written(b, 7, width);
+    let d = c.start();
     d.answer
 }
 
@@ -100,13 +110,12 @@ fn show_start() {
 fn paint_with(pictures: &[u8]) -> u8 {
     let tables = buffers::tables();
     let mut out = [0u8; 64];
-    let a = screen(4 * 65536 + 4).write(4, 1);
-    let b = a.state.write(7, 2 * 65536 + 3);
-    let c = b.state.write(10, 257);
-    let d = c.state.write(13, 65536 + 1);
-    let e = d.state.start();
-    let f = e.state.paint(0, 8, &tables, pictures, &mut out);
-    f.answer
+    let a = written(screen(4 * 65536 + 4), 4, 1);
+    let b = written(a, 7, 2 * 65536 + 3);
+    let c = written(b, 10, 257);
+    let d = written(c, 13, 65536 + 1);
+    let e = started(d).paint(0, 8, &tables, pictures, &mut out);
+    e.answer
 }
 
 fn show_pictures() {

@@ -7,9 +7,12 @@ use crate::checksum::with_byte;
 use crate::print;
 use crate::screen::GLOBAL;
 use crate::screen::covered_screen;
+use crate::screen::started;
+use crate::screen::written;
 use display::Display;
 ghost use mathlib.Core.Path.{_≡_};
 ghost use lib.ListN.{length};
+ghost use Rattle.display.specs.Reached.{Arranged};
 
 const SIZE: u32 = 86 * 65536 + 256;
 
@@ -20,10 +23,10 @@ fn pixels() -> [u8; 88064]
 }
 
 // The screen with a layer all over it that has that alpha word, started.
-fn started(word: u32) -> Display {
-    let a = covered_screen(SIZE).write(5, word);
-    let b = a.state.start();
-    b.state
+fn layered(word: u32) -> Display
+    ensures { λ r. ⌜ Arranged r ⌝ }
+{
+    started(written(covered_screen(SIZE), 5, word))
 }
 
 // The number of the pair that a byte of the screen belongs to. An alpha byte has the next one's.
@@ -75,7 +78,7 @@ fn painted(
 ) -> u32 {
     lay_over(pictures, alpha, mixed);
     lay_under(out);
-    started(word).paint(0, 8, tables, pictures, out);
+    layered(word).paint(0, 8, tables, pictures, out);
     checksum(out)
 }
 

@@ -6,7 +6,10 @@ use crate::checksum::with_byte;
 use crate::print;
 use crate::screen::GLOBAL;
 use crate::screen::covered_screen;
+use crate::screen::started;
+use crate::screen::written;
 use display::Display;
+ghost use Rattle.display.specs.Reached.{Arranged};
 
 const CASES: usize = 6 * 6 * 3 * 16 * 6;
 
@@ -69,20 +72,23 @@ fn case_of(i: usize, length: u16) -> Case {
 
 // The display with the case's fade, started. Its frame number is then 1, so the fade's start lies
 // as far from there as the case's lies from its frame.
-fn started(state: Display, case: Case, length: u16) -> Display {
+fn faded(state: Display, case: Case, length: u16) -> Display
+    requires { ⌜ Arranged state ⌝ }
+    ensures { λ r. ⌜ Arranged r ⌝ }
+{
     let since = std::num::wrapping_sub_u32(case.frame, case.start);
-    let a = state.write(5, GLOBAL + case.value as u32);
-    let b = a.state.write(8, std::num::wrapping_sub_u32(1, since));
-    let c = b.state
-        .write(9, (case.target as u32) * 65536 + length as u32);
-    let d = c.state.start();
-    d.state
+    let a = written(state, 5, GLOBAL + case.value as u32);
+    let b = written(a, 8, std::num::wrapping_sub_u32(1, since));
+    let c = written(b, 9, (case.target as u32) * 65536 + length as u32);
+    started(c)
 }
 
 // White over black gives the alpha itself.
-fn painted(state: Display, case: Case, length: u16, tables: &[u8]) -> u8 {
+fn painted(state: Display, case: Case, length: u16, tables: &[u8]) -> u8
+    requires { ⌜ Arranged state ⌝ }
+{
     let mut out = [0u8; 4];
-    let s = started(state, case, length);
+    let s = faded(state, case, length);
     s.paint(0, 8, tables, b"\xff\xff\xff\x00", &mut out);
     out[0]
 }

@@ -12,6 +12,7 @@ use crate::record;
 use crate::stage;
 use crate::stage::Stage;
 use libc::STDIN_FILENO;
+ghost use Rattle.display.specs.Reached.{Arranged};
 
 // The letter, the answer (00 where nothing was called), the count, what the state tells, and the
 // checksums of all tables and all output, lent or not.
@@ -37,13 +38,10 @@ fn view(out: &[u8], at: u32) {
     print::end_line();
 }
 
-fn turn(
-    s: Stage,
-    text: &[u8; 20],
-    tables: &mut [u8],
-    pictures: &mut [u8],
-    out: &mut [u8],
-) -> Stage {
+fn turn(s: Stage, text: &[u8; 20], tables: &mut [u8], pictures: &mut [u8], out: &mut [u8]) -> Stage
+    requires { ⌜ Arranged (s .state) ⌝ }
+    ensures { λ r. ⌜ Arranged (r .state) ⌝ }
+{
     let r = record::read(text);
     let letter = r.letter;
     match letter {

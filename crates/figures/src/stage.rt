@@ -9,12 +9,14 @@
 //     U  put a run, X write a run: the b bytes of the pictures from a on, or what there is of them
 //     B  paint the band a..b          R  paint a whole frame
 //     Y  paint line a into the output from byte b on, so many bytes as are lent
+//     H  make each painting (B, R, Y) a times more (up to 1,023), until the next H or N
 use crate::buffers;
 use crate::record::Record;
 use display::Display;
 use display::Ran;
 use display::Told;
 use tables::tables_len;
+ghost use Rattle.display.specs.Reached.{Arranged};
 
 // How many bytes are lent, counted from a buffer's front; more than it has is all of it.
 pub struct Lent {
@@ -29,6 +31,8 @@ pub struct Stage {
     pub answer: u8,
     pub done: usize,
     pub lent: Lent,
+    // How many times more a painting is made.
+    pub more: u32,
 }
 
 // The whole tables of a display that is made with so many bits a glyph pixel.
@@ -40,7 +44,9 @@ fn whole_tables(bits: u32) -> u32 {
 }
 
 // A fresh display with whole tables and nothing else lent, and what making it answered.
-pub fn fresh(bits: u32) -> Stage {
+pub fn fresh(bits: u32) -> Stage
+    ensures { λ r. ⌜ Arranged (r .state) ⌝ }
+{
     let told = Display::new(bits);
     let state = told.state;
     Stage {
@@ -52,16 +58,23 @@ pub fn fresh(bits: u32) -> Stage {
             pictures: 0,
             out: 0,
         },
+        more: 0,
     }
 }
 
-fn put(state: Display, tables: &mut [u8], lent: Lent, byte: u8) -> Told {
+fn put(state: Display, tables: &mut [u8], lent: Lent, byte: u8) -> Told
+    requires { ⌜ Arranged state ⌝ }
+    ensures { λ r. ⌜ Arranged (r .state) ⌝ }
+{
     let n = io::count(lent.tables as isize, tables);
     state.put(&mut tables[..n], byte)
 }
 
 // A byte put once and then up to 1,023 times more; the last answer.
-fn put_often(state: Display, tables: &mut [u8], lent: Lent, byte: u8, more: u32) -> Told {
+fn put_often(state: Display, tables: &mut [u8], lent: Lent, byte: u8, more: u32) -> Told
+    requires { ⌜ Arranged state ⌝ }
+    ensures { λ r. ⌜ Arranged (r .state) ⌝ }
+{
     let mut told = put(state, tables, lent, byte);
     let mut left = more % 1024;
     while left > 0 {
@@ -72,19 +85,28 @@ fn put_often(state: Display, tables: &mut [u8], lent: Lent, byte: u8, more: u32)
 }
 
 // A run of puts, of so many of the bytes.
-fn put_run(state: Display, tables: &mut [u8], lent: Lent, bytes: &[u8], length: u32) -> Ran {
+fn put_run(state: Display, tables: &mut [u8], lent: Lent, bytes: &[u8], length: u32) -> Ran
+    requires { ⌜ Arranged state ⌝ }
+    ensures { λ r. ⌜ Arranged (r .state) ⌝ }
+{
     let t = io::count(lent.tables as isize, tables);
     let n = io::count(length as isize, bytes);
     state.put_run(&mut tables[..t], &bytes[..n])
 }
 
 // A run of writes, of so many of the bytes.
-fn write_run(state: Display, bytes: &[u8], length: u32) -> Ran {
+fn write_run(state: Display, bytes: &[u8], length: u32) -> Ran
+    requires { ⌜ Arranged state ⌝ }
+    ensures { λ r. ⌜ Arranged (r .state) ⌝ }
+{
     let n = io::count(length as isize, bytes);
     state.write_run(&bytes[..n])
 }
 
-fn fill(state: Display, out: &mut [u8], lent: Lent) -> Told {
+fn fill(state: Display, out: &mut [u8], lent: Lent) -> Told
+    requires { ⌜ Arranged state ⌝ }
+    ensures { λ r. ⌜ Arranged (r .state) ⌝ }
+{
     let n = io::count(lent.out as isize, out);
     state.fill(&mut out[..n])
 }
@@ -97,32 +119,87 @@ fn paint(
     pictures: &[u8],
     out: &mut [u8],
     lent: Lent,
-) -> Told {
+) -> Told
+    requires { ⌜ Arranged state ⌝ }
+    ensures { λ r. ⌜ Arranged (r .state) ⌝ }
+{
     let t = io::count(lent.tables as isize, tables);
     let p = io::count(lent.pictures as isize, pictures);
     let n = io::count(lent.out as isize, out);
     state.paint(low, high, &tables[..t], &pictures[..p], &mut out[..n])
 }
 
-fn frame(state: Display, tables: &[u8], pictures: &[u8], out: &mut [u8], lent: Lent) -> Told {
+fn frame(state: Display, tables: &[u8], pictures: &[u8], out: &mut [u8], lent: Lent) -> Told
+    requires { ⌜ Arranged state ⌝ }
+    ensures { λ r. ⌜ Arranged (r .state) ⌝ }
+{
     let t = io::count(lent.tables as isize, tables);
     let p = io::count(lent.pictures as isize, pictures);
     let n = io::count(lent.out as isize, out);
     state.frame(&tables[..t], &pictures[..p], &mut out[..n])
 }
 
-fn line(
-    state: Display,
-    y: u32,
-    tables: &[u8],
-    pictures: &[u8],
-    out: &mut [u8],
-    lent: Lent,
-) -> Told {
+fn line(state: Display, y: u32, tables: &[u8], pictures: &[u8], out: &mut [u8], lent: Lent) -> Told
+    requires { ⌜ Arranged state ⌝ }
+    ensures { λ r. ⌜ Arranged (r .state) ⌝ }
+{
     let t = io::count(lent.tables as isize, tables);
     let p = io::count(lent.pictures as isize, pictures);
     let n = io::count(lent.out as isize, out);
     state.line(y, &tables[..t], &pictures[..p], &mut out[..n])
+}
+
+// The painting that a record asks for.
+fn paint_once(
+    state: Display,
+    r: Record,
+    tables: &[u8],
+    pictures: &[u8],
+    out: &mut [u8],
+    lent: Lent,
+) -> Told
+    requires { ⌜ Arranged state ⌝ }
+    ensures { λ r. ⌜ Arranged (r .state) ⌝ }
+{
+    let letter = r.letter;
+    match letter {
+        b'B' => paint(state, r.a, r.b, tables, pictures, out, lent),
+        b'R' => frame(state, tables, pictures, out, lent),
+        _ => {
+            let at = io::count(r.b as isize, out);
+            line(state, r.a, tables, pictures, &mut out[at..], lent)
+        }
+    }
+}
+
+// A painting made once and then so many times more; the last answer.
+fn paint_often(
+    state: Display,
+    r: Record,
+    tables: &[u8],
+    pictures: &[u8],
+    out: &mut [u8],
+    lent: Lent,
+    more: u32,
+) -> Told
+    requires { ⌜ Arranged state ⌝ }
+    ensures { λ r. ⌜ Arranged (r .state) ⌝ }
+{
+    let mut told = paint_once(state, r, tables, pictures, out, lent);
+    let mut left = more;
+    while left > 0 {
+        told = paint_once(told.state, r, tables, pictures, out, lent);
+        left -= 1;
+    }
+    told
+}
+
+// How many times more a painting is made after a record.
+fn more_paintings(more: u32, r: Record) -> u32 {
+    if r.letter == b'H' {
+        return r.a % 1024;
+    }
+    more
 }
 
 // What is lent after a record.
@@ -156,11 +233,15 @@ fn change(r: Record, tables: &mut [u8], pictures: &mut [u8], out: &mut [u8]) {
 fn call(
     state: Display,
     lent: Lent,
+    more: u32,
     r: Record,
     tables: &mut [u8],
     pictures: &[u8],
     out: &mut [u8],
-) -> Told {
+) -> Told
+    requires { ⌜ Arranged state ⌝ }
+    ensures { λ r. ⌜ Arranged (r .state) ⌝ }
+{
     let letter = r.letter;
     match letter {
         b'W' => state.write(r.a, r.b),
@@ -169,12 +250,7 @@ fn call(
         b'G' => state.start(),
         b'P' => put_often(state, tables, lent, (r.a % 256) as u8, r.b),
         b'F' => fill(state, out, lent),
-        b'B' => paint(state, r.a, r.b, tables, pictures, out, lent),
-        b'R' => frame(state, tables, pictures, out, lent),
-        b'Y' => {
-            let at = io::count(r.b as isize, out);
-            line(state, r.a, tables, pictures, &mut out[at..], lent)
-        }
+        b'B' | b'R' | b'Y' => paint_often(state, r, tables, pictures, out, lent, more),
         _ => Told {
             state: state,
             answer: 0,
@@ -186,18 +262,22 @@ fn call(
 fn run(
     state: Display,
     lent: Lent,
+    more: u32,
     r: Record,
     tables: &mut [u8],
     pictures: &[u8],
     out: &mut [u8],
-) -> Ran {
+) -> Ran
+    requires { ⌜ Arranged state ⌝ }
+    ensures { λ r. ⌜ Arranged (r .state) ⌝ }
+{
     let letter = r.letter;
     let at = io::count(r.a as isize, pictures);
     match letter {
         b'U' => put_run(state, tables, lent, &pictures[at..], r.b),
         b'X' => write_run(state, &pictures[at..], r.b),
         _ => {
-            let told = call(state, lent, r, tables, pictures, out);
+            let told = call(state, lent, more, r, tables, pictures, out);
             let after = told.state;
             Ran {
                 state: after,
@@ -209,7 +289,9 @@ fn run(
 }
 
 // A fresh display, and zeros in every buffer.
-fn renew(bits: u32, tables: &mut [u8], pictures: &mut [u8], out: &mut [u8]) -> Stage {
+fn renew(bits: u32, tables: &mut [u8], pictures: &mut [u8], out: &mut [u8]) -> Stage
+    ensures { λ r. ⌜ Arranged (r .state) ⌝ }
+{
     buffers::fill(tables, 0, 0, false);
     buffers::fill(pictures, 0, 0, false);
     buffers::fill(out, 0, 0, false);
@@ -217,18 +299,23 @@ fn renew(bits: u32, tables: &mut [u8], pictures: &mut [u8], out: &mut [u8]) -> S
 }
 
 // The stage after a record. A letter that means nothing changes nothing.
-pub fn play(s: Stage, r: Record, tables: &mut [u8], pictures: &mut [u8], out: &mut [u8]) -> Stage {
+pub fn play(s: Stage, r: Record, tables: &mut [u8], pictures: &mut [u8], out: &mut [u8]) -> Stage
+    requires { ⌜ Arranged (s .state) ⌝ }
+    ensures { λ r. ⌜ Arranged (r .state) ⌝ }
+{
     if r.letter == b'N' {
         return renew(r.a, tables, pictures, out);
     }
     change(r, tables, pictures, out);
     let lent = lend(s.lent, r);
-    let ran = run(s.state, lent, r, tables, pictures, out);
+    let more = more_paintings(s.more, r);
+    let ran = run(s.state, lent, more, r, tables, pictures, out);
     let state = ran.state;
     Stage {
         state: state,
         answer: ran.answer,
         done: ran.done,
         lent: lent,
+        more: more,
     }
 }

@@ -3,6 +3,7 @@ ghost use mathlib.Core.Path.{_≡_};
 ghost use Rattle.host.specs.Host.{profileFor, hostAnswer, hostOutput};
 use answers::DONE;
 use answers::IMAGE_LENGTH;
+use order::layout_of;
 use profiles::Profile;
 use starts::refusal_of;
 use tables::tables_len;
@@ -42,6 +43,7 @@ pub extern "C" fn spoonwing_frame(
         return refusal as u32;
     }
     let profile = profile_for(tables.len());
-    let painted = paint::frame(profile, &words, frame, 0, tables, pictures, output);
+    let layout = layout_of(&words);
+    let painted = paint::frame(profile, &words, layout, frame, 0, tables, pictures, output);
     painted.answer as u32
 }

@@ -19,6 +19,7 @@ use Rattle.answers.specs.Answers.{done, glyphBits}
 use Rattle.words.specs.Change.{withOff}
 use Rattle.words.specs.Order.{layersAt, layersBelow, orderOf, bandLayers}
 use Rattle.profiles.specs.Profile.{oneBit, twoBits}
+use Rattle.order.specs.Layout.{layoutOf}
 use Rattle.tables.specs.Geometry.{tablesLen, bankLen, kindAt}
 use Rattle.frames.specs.Scene.{Scene}
 use Rattle.frames.specs.Band.{pixelAt, bandByte, bandOf}
@@ -41,7 +42,7 @@ use Rattle.lines.specs.Sizes.{outLen}
 use Rattle.laws.specs.Small.{first, grey, night, written, started, sizeless, selecting, blank, filled, white, clear, dim}
 use Rattle.laws.specs.Small.{bright, image, line, page, printed, replyWith, Paints, Frames, Hosts, Prints}
 use Rattle.laws.specs.Small.{oneWrite, Scans, Finishes, Feeds}
-use Rattle.laws.specs.Impostors.{TurnsDown, PrintsDown, untouched, andNot, stoppedStart, Rule, paintedBy}
+use Rattle.laws.specs.Impostors.{TurnsDown, PrintsDown, untouched, andNot, stoppedStart, oldOrder, Rule, paintedBy}
 use Rattle.laws.specs.Impostors.{framedBy, printedBy, lowest, by256, numbered, groundLast, paintBy, frameBy}
 use Rattle.laws.specs.Impostors.{hostBy, lineBy, Breaks}
 use Rattle.laws.proofs.Small as small
@@ -280,6 +281,11 @@ toggle-and-not m = apart (λ (t : Told). t .state .errors) (λ (z : 0 ≡ 1). om
 pub start-stopped : Meets startCall sizeless (stoppedStart sizeless) → ⊥
 unfolding small.wordsOpen
 start-stopped m = apart (λ (t : Told). t .state .frame) (λ (z : 0 ≡ 1). omega arith) (tied-meets start-tie m)
+
+pub start-old-order : Meets startCall (written grey) (oldOrder (written grey)) → ⊥
+unfolding small.wordsOpen layoutOf orderOf layersBelow layersAt
+start-old-order m =
+    apart (λ (t : Told). t .state .layout .order .count) (λ (z : 0 ≡ 2). omega arith) (tied-meets start-tie m)
 
 -- ---- other rules of painting
 

@@ -23,6 +23,7 @@ use Rattle.frames.specs.Frame.{fillOf}
 use Rattle.display.specs.declared.Display.{Display}
 use Rattle.display.specs.declared.Told.{Told}
 use Rattle.display.specs.State.{told, withErrors, startOf}
+use Rattle.display.specs.Doors.{withLayout}
 use Rattle.display.specs.Paint.{sceneWith}
 use Rattle.hex.specs.Hex.{bytesIn}
 use Rattle.texts.specs.Replies.{replyText}
@@ -59,6 +60,10 @@ andNot d bits = told (withErrors d (bitAnd (d .errors) (2 ^ 32 - 1 - bits))) don
 -- "Stopping the frame number on a refused start."
 abbrev pub stoppedStart : Display → Told
 stoppedStart d = choose (eqb (startOf d .answer) done) (startOf d) (told d (startOf d .answer))
+
+-- 02 K5: the words that become active are painted in the order of those before them
+abbrev pub oldOrder : Display → Told
+oldOrder d = told (withLayout (startOf d .state) (d .layout)) (startOf d .answer)
 
 -- ---- of painting
 

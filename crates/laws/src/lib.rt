@@ -3,6 +3,7 @@
 // are of bytes is known by their types, so only a function can use it.
 ghost use mathlib.Core.Path.{_≡_};
 ghost use Rattle.display.specs.Paint.{sceneWith};
+ghost use Rattle.display.specs.Reached.{Arranged};
 ghost use Rattle.host.specs.Host.{sceneIn};
 ghost use Rattle.laws.specs.Painting.{Framing, Hosting, Between};
 use display::Display;
@@ -10,8 +11,9 @@ use display::Told;
 use host::spoonwing_frame;
 
 // Whoever makes the display's call has its law of between, and no more to show than that the frame is
-// painted.
+// painted. It asks what painting asks.
 fn between_frame(state: Display, tables: &[u8], pictures: &[u8], out: &mut [u8]) -> Told
+    requires { ⌜ Arranged state ⌝ }
     ensures { λ _. ⌜ (Framing state (now (tables .entry)) (now (pictures .entry)) (now (out .entry))
         → Between (sceneWith state (now (tables .entry)) (now (pictures .entry))) (now (out .exit))) ⌝ }
 {

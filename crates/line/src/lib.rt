@@ -18,6 +18,7 @@ ghost use lib.ListN.{length, take};
 ghost use Rattle.lists.specs.Over.{over};
 ghost use Rattle.answers.specs.Answers.{done};
 ghost use Rattle.words.specs.Fields.{widthOf, heightOf};
+ghost use Rattle.display.specs.Reached.{Arranged};
 ghost use Rattle.line.specs.Sizes.{mostBytes, mostLent, mostReply, mostPrinted};
 ghost use Rattle.line.specs.Line.{startedOf, zeros, lentFor, headOf, framedOf, paintedOf, replyOf, doneOf};
 ghost use Rattle.line.specs.Line.{outcomeOf, lineOf, printedOf};
@@ -118,7 +119,7 @@ fn head(state: Display, reply: &mut [u8])
 
 // The frame, where nothing was refused, and the reply.
 fn frame(t: Told, tables: &[u8], pictures: &[u8], reply: &mut [u8]) -> Replied
-    requires { ⌜ now reply ≡ zeros mostReply ⌝ }
+    requires { ⌜ Arranged (t .state) × (now reply ≡ zeros mostReply) ⌝ }
     ensures { λ r. ⌜ (r .state ≡ framedOf t (now (tables .entry)) (now (pictures .entry)) .state)
         × (take (r .count) (now (reply .exit)) ≡ replyOf (framedOf t (now (tables .entry)) (now (pictures .entry)))
         (paintedOf t (now (tables .entry)) (now (pictures .entry)))) × (r .count ≤ mostReply) ⌝ }
@@ -144,7 +145,7 @@ fn frame(t: Told, tables: &[u8], pictures: &[u8], reply: &mut [u8]) -> Replied
 
 // A line's bytes. The form is looked at before anything is done.
 fn work(state: Display, tables: &mut [u8], b: &[u8], reply: &mut [u8]) -> Replied
-    requires { ⌜ now reply ≡ zeros mostReply ⌝ }
+    requires { ⌜ Arranged state × (now reply ≡ zeros mostReply) ⌝ }
     ensures { λ r. ⌜ Leaves (doneOf state (now (tables .entry)) (now (b .entry))) r (now (tables .exit))
         (now (reply .exit)) ⌝ }
 {
@@ -162,7 +163,7 @@ fn work(state: Display, tables: &mut [u8], b: &[u8], reply: &mut [u8]) -> Replie
 
 // A line's text.
 fn answer(state: Display, tables: &mut [u8], text: &[u8], reply: &mut [u8]) -> Replied
-    requires { ⌜ now reply ≡ zeros mostReply ⌝ }
+    requires { ⌜ Arranged state × (now reply ≡ zeros mostReply) ⌝ }
     ensures { λ r. ⌜ Leaves (outcomeOf state (now (tables .entry)) (now (text .entry))) r (now (tables .exit))
         (now (reply .exit)) ⌝ }
 {
@@ -180,7 +181,7 @@ fn answer(state: Display, tables: &mut [u8], text: &[u8], reply: &mut [u8]) -> R
 
 // `lines::run_line` on slices.
 pub fn run_in(state: Display, tables: &mut [u8], text: &[u8], out: &mut [u8]) -> Printed
-    requires { ⌜ mostPrinted ≤ length (now out) ⌝ }
+    requires { ⌜ Arranged state × (mostPrinted ≤ length (now out)) ⌝ }
     ensures { λ r. ⌜ r ≡ printedOf (lineOf state (now (tables .entry)) (now (text .entry))) ⌝ }
     ensures { λ _. ⌜ now (tables .exit) ≡ lineOf state (now (tables .entry)) (now (text .entry)) .tables ⌝ }
     ensures { λ _. ⌜ now (out .exit)

@@ -2,6 +2,7 @@
 pub mod BlockLaws
 pub mod CallLaws
 pub mod SheetLaws
+pub mod Arranged
 pub mod Fits
 pub mod Unique
 pub mod Worked

@@ -11,6 +11,7 @@ ghost use mathlib.Core.Path.{_≡_};
 ghost use Prim.Native.Nat.{_+_, _≤_, _<_};
 ghost use lib.ListN.{length, take};
 ghost use Rattle.lists.specs.Over.{over};
+ghost use Rattle.display.specs.Reached.{Arranged};
 ghost use Rattle.texts.specs.Lines.{lineIn};
 ghost use Rattle.line.specs.Sizes.{mostPrinted};
 ghost use Rattle.line.specs.Line.{printedOf};
@@ -46,7 +47,7 @@ pub fn first() -> Going
 
 // On to the end of one line at most. Where the line ends it is done and printed, else it is kept.
 fn feed_line(going: Going, tables: &mut [u8], text: &mut [u8], block: &[u8], out: &mut [u8]) -> Fed
-    requires { ⌜ (length (now text) ≡ mostKept) × (mostPrinted ≤ length (now out)) ⌝ }
+    requires { ⌜ (length (now text) ≡ mostKept) × (mostPrinted ≤ length (now out)) × Arranged (going .state) ⌝ }
     ensures { λ r. ⌜ r ≡ lineFed going (now (tables .entry)) (now (text .entry)) (now (block .entry)) ⌝ }
     ensures { λ _. ⌜ now (tables .exit)
         ≡ lineRun going (now (tables .entry)) (now (text .entry)) (now (block .entry)) .tables ⌝ }
@@ -83,7 +84,7 @@ fn feed_line(going: Going, tables: &mut [u8], text: &mut [u8], block: &[u8], out
 // One line more: its answer goes behind those that are printed.
 fn turn(c: Fed, tables: &mut [u8], text: &mut [u8], block: &[u8], out: &mut [u8]) -> Fed
     requires { ⌜ (c .used < length (now block)) × (c .count + mostPrinted ≤ outLen) × (length (now text) ≡ mostKept)
-        × (length (now out) ≡ outLen) ⌝ }
+        × (length (now out) ≡ outLen) × Arranged (c .going .state) ⌝ }
     ensures { λ r. ⌜ batchAt r (now (tables .exit)) (now (text .exit)) (now (out .exit))
         ≡ turnOf (now (block .entry)) (batchAt c (now (tables .entry)) (now (text .entry)) (now (out .entry))) ⌝ }
     ensures { λ r. ⌜ (c .used < r .used) × (r .used ≤ length (now (block .entry))) × (c .count ≤ r .count)
@@ -120,7 +121,7 @@ pub fn feed_in(
     block: &[u8],
     out: &mut [u8],
 ) -> Fed
-    requires { ⌜ (length (now text) ≡ mostKept) × (length (now out) ≡ outLen) ⌝ }
+    requires { ⌜ (length (now text) ≡ mostKept) × (length (now out) ≡ outLen) × Arranged (going .state) ⌝ }
     ensures { λ r. ⌜ r ≡ fedOf (feedOf going (now (tables .entry)) (now (text .entry)) (now (block .entry))) ⌝ }
     ensures { λ _. ⌜ now (tables .exit)
         ≡ feedOf going (now (tables .entry)) (now (text .entry)) (now (block .entry)) .tables ⌝ }
@@ -145,7 +146,7 @@ pub fn feed_in(
 
 // `crate::finish` on slices.
 pub fn finish_in(going: Going, tables: &mut [u8], text: &[u8], out: &mut [u8]) -> Printed
-    requires { ⌜ (length (now text) ≡ mostKept) × (mostPrinted ≤ length (now out)) ⌝ }
+    requires { ⌜ (length (now text) ≡ mostKept) × (mostPrinted ≤ length (now out)) × Arranged (going .state) ⌝ }
     ensures { λ r. ⌜ r ≡ printedOf (finishOf going (now (tables .entry)) (now (text .entry))) ⌝ }
     ensures { λ _. ⌜ now (tables .exit) ≡ finishOf going (now (tables .entry)) (now (text .entry)) .tables ⌝ }
     ensures { λ _. ⌜ now (out .exit)

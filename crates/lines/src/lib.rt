@@ -5,6 +5,7 @@ ghost use mathlib.Core.Path.{_≡_};
 ghost use Prim.Native.Nat.{_≤_, _<_};
 ghost use lib.ListN.{length};
 ghost use Rattle.lists.specs.Over.{over};
+ghost use Rattle.display.specs.Reached.{Arranged};
 ghost use Rattle.line.specs.Sizes.{mostPrinted};
 ghost use Rattle.line.specs.Line.{lineOf, printedOf};
 ghost use Rattle.lines.specs.Sizes.{outLen};
@@ -29,6 +30,7 @@ pub fn run_line(
     text: &[u8],
     out: &mut [u8; MOST_PRINTED],
 ) -> Printed
+    requires { ⌜ Arranged state ⌝ }
     ensures printed { λ r. ⌜ r ≡ printedOf (lineOf state (now (tables .entry)) (now (text .entry))) ⌝ }
     ensures tables { λ _. ⌜ now (tables .exit) ≡ lineOf state (now (tables .entry)) (now (text .entry)) .tables ⌝ }
     ensures output { λ _. ⌜ now (out .exit)
@@ -54,6 +56,7 @@ pub fn feed(
     block: &[u8],
     out: &mut [u8; OUT_LEN],
 ) -> Fed
+    requires { ⌜ Arranged (going .state) ⌝ }
     ensures fed { λ r. ⌜ r ≡ fedOf (feedOf going (now (tables .entry)) (now (text .entry)) (now (block .entry))) ⌝ }
     ensures tables { λ _. ⌜ now (tables .exit)
         ≡ feedOf going (now (tables .entry)) (now (text .entry)) (now (block .entry)) .tables ⌝ }
@@ -75,6 +78,7 @@ pub fn finish(
     text: &[u8; MOST_KEPT],
     out: &mut [u8; OUT_LEN],
 ) -> Printed
+    requires { ⌜ Arranged (going .state) ⌝ }
     ensures printed { λ r. ⌜ r ≡ printedOf (finishOf going (now (tables .entry)) (now (text .entry))) ⌝ }
     ensures tables { λ _. ⌜ now (tables .exit) ≡ finishOf going (now (tables .entry)) (now (text .entry)) .tables ⌝ }
     ensures output { λ _. ⌜ now (out .exit)

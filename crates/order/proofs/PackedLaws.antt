@@ -14,7 +14,8 @@ use Rattle.words.specs.Fields.{layerOf}
 use Rattle.words.specs.Order.{here, layersAt, layersBelow, orderOf}
 use Rattle.words.proofs.OrderLaws.{counts, length-layersAt, length-layersBelow-le}
 use Rattle.order.specs.declared.Order.{Order}
-use Rattle.order.specs.Engine.Packed.{found, packed}
+use Rattle.order.specs.Layout.{packed}
+use Rattle.order.specs.Engine.Found.{found}
 
 -- ---- one layer more
 

@@ -1,10 +1,12 @@
 // The enabled layers in the order of painting, rising depth and of one depth by their number; and where each
-// frame layer's picture begins among the pictures, and their total length. Functions of words alone.
+// frame layer's picture begins among the pictures, and their total length. Functions of words alone, so that a state
+// can hold what they answer.
 ghost use mathlib.Core.Path.{_≡_};
 ghost use Prim.Native.Nat.{_+_, _≤_, _<_};
 ghost use Rattle.words.specs.Order.{here, layersBelow, orderOf};
 ghost use Rattle.words.specs.Pictures.{pictureLen, pictureLenAt, picturesOf};
-ghost use Rattle.order.specs.Engine.Packed.{found, packed};
+ghost use Rattle.order.specs.Layout.{packed, layoutOf, noLayers};
+ghost use Rattle.order.specs.Engine.Found.{found};
 use mix::PIXEL_LEN;
 use words::fields::Layer;
 use words::fields::layer_of;
@@ -12,8 +14,14 @@ use words::pictures::Pictures;
 
 // The first `count` of `layers` are layer numbers; the rest is 0.
 pub struct Order {
-    pub layers: [usize; 8],
-    pub count: usize,
+    pub layers: [u8; 8],
+    pub count: u8,
+}
+
+// What a painting needs of the words alone.
+pub struct Layout {
+    pub order: Order,
+    pub pictures: Pictures,
 }
 
 // Whether a layer is enabled and of depth d.
@@ -33,7 +41,7 @@ fn with_layer(mut order: Order, w: &[u32; 52], d: usize, n: usize) -> Order
 {
     if is_here(layer_of(w, n), d) {
         let at = order.count;
-        order.layers[at] = n;
+        order.layers[at as usize] = n as u8;
         order.count = at + 1;
     }
     order
@@ -92,11 +100,11 @@ fn picture_len_at(w: &[u32; 52], n: usize) -> usize
 pub fn pictures_of(w: &[u32; 52]) -> Pictures
     ensures { λ r. ⌜ r ≡ picturesOf (now (w .entry)) ⌝ }
 {
-    let mut starts: [usize; 8] = [0; 8];
-    let mut total: usize = 0;
+    let mut starts: [u32; 8] = [0; 8];
+    let mut total: u32 = 0;
     let mut n: usize = 0;
     while n < 8 {
-        let len = picture_len_at(w, n);
+        let len = picture_len_at(w, n) as u32;
         starts[n] = total;
         total += len;
         n += 1;
@@ -104,5 +112,30 @@ pub fn pictures_of(w: &[u32; 52]) -> Pictures
     Pictures {
         starts: starts,
         total: total,
+    }
+}
+
+// Both, worked out afresh.
+pub fn layout_of(w: &[u32; 52]) -> Layout
+    ensures { λ r. ⌜ r ≡ layoutOf (now (w .entry)) ⌝ }
+{
+    let order = order_of(w);
+    let pictures = pictures_of(w);
+    Layout { order, pictures }
+}
+
+// Both of words that enable no layer.
+pub fn no_layers() -> Layout
+    ensures { λ r. ⌜ r ≡ noLayers ⌝ }
+{
+    Layout {
+        order: Order {
+            layers: [0; 8],
+            count: 0,
+        },
+        pictures: Pictures {
+            starts: [0; 8],
+            total: 0,
+        },
     }
 }

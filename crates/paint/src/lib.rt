@@ -3,6 +3,7 @@
 ghost use mathlib.Core.Path.{_≡_};
 ghost use lib.ListN.{length};
 ghost use Rattle.lists.specs.Tab.{each};
+ghost use Rattle.order.specs.Layout.{layoutOf};
 ghost use Rattle.frames.specs.Scene.{sceneOf};
 ghost use Rattle.frames.specs.Band.{errorsOf};
 ghost use Rattle.frames.specs.Frame.{fillRefusal, fillAfter, paintAfter, frameAfter};
@@ -11,6 +12,7 @@ ghost use Rattle.paint.specs.Engine.Rows.{partByte, PartFits};
 ghost use Rattle.paint.specs.Painted.{partTold, partOutput, toldOf, outputOf, lineToldOf};
 use crate::rows::paint_rows;
 use answers::DONE;
+use order::Layout;
 use plan::Part;
 use plan::plan_of;
 use profiles::Profile;
@@ -52,6 +54,7 @@ pub fn fill(w: &[u32; 52], out: &mut [u8]) -> u8
 fn paint_part(
     profile: Profile,
     w: &[u32; 52],
+    layout: Layout,
     frame: u32,
     errors: u32,
     part: Part,
@@ -60,7 +63,8 @@ fn paint_part(
     pictures: &[u8],
     out: &mut [u8],
 ) -> u32
-    requires { ⌜ PartFits (sceneOf profile (now w) frame (now tables) (now pictures)) part (now out) ⌝ }
+    requires { ⌜ (layout ≡ layoutOf (now w))
+        × PartFits (sceneOf profile (now w) frame (now tables) (now pictures)) part (now out) ⌝ }
     ensures errors { λ r. ⌜ r ≡ errorsOf
         (sceneOf profile (now (w .entry)) frame (now (tables .entry)) (now (pictures .entry)))
         (part .low) (part .high) errors ⌝ }
@@ -72,7 +76,7 @@ fn paint_part(
         lay_ground(out, fresh, ground_of(w));
         return errors;
     }
-    let plan = plan_of(bits_of(profile), w, frame, errors, tables, part);
+    let plan = plan_of(bits_of(profile), w, layout, frame, errors, tables, part);
     paint_rows(out, w, tables, pictures, fresh, plan, part);
     plan.errors
 }
@@ -82,6 +86,7 @@ fn paint_unless(
     refusal: u8,
     profile: Profile,
     w: &[u32; 52],
+    layout: Layout,
     frame: u32,
     errors: u32,
     part: Part,
@@ -90,7 +95,8 @@ fn paint_unless(
     pictures: &[u8],
     out: &mut [u8],
 ) -> Painted
-    requires { ⌜ (refusal ≡ 0 → PartFits (sceneOf profile (now w) frame (now tables) (now pictures)) part (now out)) ⌝ }
+    requires { ⌜ (layout ≡ layoutOf (now w))
+        × (refusal ≡ 0 → PartFits (sceneOf profile (now w) frame (now tables) (now pictures)) part (now out)) ⌝ }
     ensures told { λ r. ⌜ r ≡ partTold refusal
         (sceneOf profile (now (w .entry)) frame (now (tables .entry)) (now (pictures .entry))) part errors ⌝ }
     ensures output { λ _. ⌜ now (out .exit) ≡ partOutput refusal
@@ -106,6 +112,7 @@ fn paint_unless(
     let marks = paint_part(
         profile,
         w,
+        layout,
         frame,
         errors,
         part,
@@ -125,6 +132,7 @@ fn paint_unless(
 fn checked_band(
     profile: Profile,
     w: &[u32; 52],
+    layout: Layout,
     frame: u32,
     errors: u32,
     low: u32,
@@ -134,6 +142,7 @@ fn checked_band(
     pictures: &[u8],
     out: &mut [u8],
 ) -> Painted
+    requires { ⌜ layout ≡ layoutOf (now w) ⌝ }
     ensures told { λ r. ⌜ r ≡ toldOf
         (sceneOf profile (now (w .entry)) frame (now (tables .entry)) (now (pictures .entry)))
         low high (now (out .entry)) errors ⌝ }
@@ -142,7 +151,17 @@ fn checked_band(
         low high fresh (now (out .entry)) ⌝ }
 {
     let bits = bits_of(profile);
-    let refusal = paint_refusal(bits, w, low, high, out.len(), tables.len(), pictures.len());
+    let total = layout.pictures.total;
+    let refusal = paint_refusal(
+        bits,
+        w,
+        total,
+        low,
+        high,
+        out.len(),
+        tables.len(),
+        pictures.len(),
+    );
     let part = Part {
         low: low,
         high: high,
@@ -153,6 +172,7 @@ fn checked_band(
         refusal,
         profile,
         w,
+        layout,
         frame,
         errors,
         part,
@@ -167,6 +187,7 @@ fn checked_band(
 pub fn band(
     profile: Profile,
     w: &[u32; 52],
+    layout: Layout,
     frame: u32,
     errors: u32,
     low: u32,
@@ -175,6 +196,7 @@ pub fn band(
     pictures: &[u8],
     out: &mut [u8],
 ) -> Painted
+    requires { ⌜ layout ≡ layoutOf (now w) ⌝ }
     ensures told { λ r. ⌜ r ≡ toldOf
         (sceneOf profile (now (w .entry)) frame (now (tables .entry)) (now (pictures .entry)))
         low high (now (out .entry)) errors ⌝ }
@@ -184,6 +206,7 @@ pub fn band(
     checked_band(
         profile,
         w,
+        layout,
         frame,
         errors,
         low,
@@ -199,12 +222,14 @@ pub fn band(
 pub fn frame(
     profile: Profile,
     w: &[u32; 52],
+    layout: Layout,
     frame: u32,
     errors: u32,
     tables: &[u8],
     pictures: &[u8],
     out: &mut [u8],
 ) -> Painted
+    requires { ⌜ layout ≡ layoutOf (now w) ⌝ }
     ensures told { λ r. ⌜ r ≡ toldOf
         (sceneOf profile (now (w .entry)) frame (now (tables .entry)) (now (pictures .entry))) 0 8 (now (out .entry)) errors ⌝ }
     ensures output { λ _. ⌜ now (out .exit) ≡ frameAfter
@@ -213,6 +238,7 @@ pub fn frame(
     checked_band(
         profile,
         w,
+        layout,
         frame,
         errors,
         0,
@@ -229,6 +255,7 @@ pub fn frame(
 pub fn line(
     profile: Profile,
     w: &[u32; 52],
+    layout: Layout,
     frame: u32,
     errors: u32,
     y: u32,
@@ -236,13 +263,15 @@ pub fn line(
     pictures: &[u8],
     out: &mut [u8],
 ) -> Painted
+    requires { ⌜ layout ≡ layoutOf (now w) ⌝ }
     ensures told { λ r. ⌜ r ≡ lineToldOf
         (sceneOf profile (now (w .entry)) frame (now (tables .entry)) (now (pictures .entry))) y (now (out .entry)) errors ⌝ }
     ensures output { λ _. ⌜ now (out .exit) ≡ lineAfter
         (sceneOf profile (now (w .entry)) frame (now (tables .entry)) (now (pictures .entry))) y (now (out .entry)) ⌝ }
 {
     let bits = bits_of(profile);
-    let refusal = line_refusal(bits, w, y, out.len(), tables.len(), pictures.len());
+    let total = layout.pictures.total;
+    let refusal = line_refusal(bits, w, total, y, out.len(), tables.len(), pictures.len());
     let part = Part {
         low: 0,
         high: DEPTHS,
@@ -254,6 +283,7 @@ pub fn line(
         refusal,
         profile,
         w,
+        layout,
         frame,
         errors,
         part,

@@ -13,14 +13,14 @@ ghost use Rattle.frames.specs.Pixel.{bankBytes};
 ghost use Rattle.colours.specs.Rows.{PaletteOf};
 ghost use Rattle.lists.specs.Tab.{tab};
 ghost use Rattle.words.specs.Order.{within};
+ghost use Rattle.order.specs.Layout.{layoutOf};
 ghost use Rattle.plan.specs.Engine.Plan.{Made, Planned, Pushed, Grown, Empty, reaches, partLayers, marked, bandMarks};
 use colours::palette;
 use draw::ListEnd;
 use draw::list_end;
 use mix::fade;
 use numbers::least;
-use order::order_of;
-use order::pictures_of;
+use order::Layout;
 use tables::COLOURS;
 use tables::COLOURS_LEN;
 use tables::FONT;
@@ -202,7 +202,7 @@ fn with_layer(
     w: &[u32; 52],
     frame: u32,
     tables: &[u8],
-    starts: [usize; 8],
+    starts: [u32; 8],
     n: usize,
     part: Part,
 ) -> Plan
@@ -220,7 +220,7 @@ fn with_layer(
     if !is_reached(layer, part) {
         return marked;
     }
-    let step = step_of(bits, w, frame, tables, starts[n], end, n);
+    let step = step_of(bits, w, frame, tables, starts[n] as usize, end, n);
     pushed(marked, step)
 }
 
@@ -266,28 +266,37 @@ fn empty(errors: u32) -> Plan
     }
 }
 
-// The layers of a part, in the order of painting, and the error word after them.
+// The layers of a part, in the order of painting, and the error word after them. The words come with their layout.
 pub fn plan_of(
     bits: usize,
     w: &[u32; 52],
+    layout: Layout,
     frame: u32,
     errors: u32,
     tables: &[u8],
     part: Part,
 ) -> Plan
-    requires { ⌜ (bits ≤ 2) × (length (now tables) ≡ tablesLen bits) ⌝ }
+    requires { ⌜ (bits ≤ 2) × (layout ≡ layoutOf (now w)) × (length (now tables) ≡ tablesLen bits) ⌝ }
     ensures layers { λ r. ⌜ Planned bits (now (w .entry)) frame (now (tables .entry)) (partLayers (now (w .entry)) part) r ⌝ }
     ensures errors { λ r. ⌜ r .errors
         ≡ bandMarks bits (now (w .entry)) (now (tables .entry)) (part .low) (part .high) errors ⌝ }
 {
-    let order = order_of(w);
-    let starts = pictures_of(w).starts;
-    let layers = order.layers;
-    let count = order.count;
+    let starts = layout.pictures.starts;
+    let layers = layout.order.layers;
+    let count = layout.order.count as usize;
     let mut plan = empty(errors);
     let mut i: usize = 0;
     while i < count {
-        plan = with_layer(plan, bits, w, frame, tables, starts, layers[i], part);
+        plan = with_layer(
+            plan,
+            bits,
+            w,
+            frame,
+            tables,
+            starts,
+            layers[i] as usize,
+            part,
+        );
         i += 1;
     }
     plan

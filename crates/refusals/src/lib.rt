@@ -1,8 +1,12 @@
 // What painting refuses, in document 01's order, by the words and the buffers' lengths.
 ghost use mathlib.Core.Path.{_≡_};
 ghost use Prim.Native.Nat.{_≤_};
-ghost use Rattle.frames.specs.Frame.{bandRefusal, sizeRefusal, outputRefusal, tablesRefusal, picturesRefusal};
-ghost use Rattle.frames.specs.Frame.{lentRefusal, fillRefusal, paintRefusal};
+ghost use lib.Dec.{eqb};
+ghost use Rattle.lists.specs.Choice.{pick, orElse};
+ghost use Rattle.answers.specs.Answers.{done, picturesLength};
+ghost use Rattle.words.specs.Pictures.{picturesLen};
+ghost use Rattle.frames.specs.Frame.{bandRefusal, sizeRefusal, outputRefusal, tablesRefusal};
+ghost use Rattle.frames.specs.Frame.{fillRefusal, paintRefusal};
 ghost use Rattle.frames.specs.Line.{numberRefusal, lengthRefusal, lineRefusal};
 use answers::DONE;
 use answers::NO_BAND;
@@ -13,7 +17,6 @@ use answers::PICTURES_LENGTH;
 use answers::TABLES_LENGTH;
 use answers::or_else;
 use mix::PIXEL_LEN;
-use order::pictures_of;
 use tables::tables_len;
 use words::fields::screen_height;
 use words::fields::screen_width;
@@ -70,22 +73,25 @@ fn tables_refusal(bits: usize, tables: usize) -> u8
     TABLES_LENGTH
 }
 
-// 14, of pictures so long.
-fn pictures_refusal(w: &[u32; 52], pictures: usize) -> u8
-    ensures { λ r. ⌜ r ≡ picturesRefusal (now (w .entry)) pictures ⌝ }
+// 14, of pictures so long, where so many bytes are asked.
+fn pictures_refusal(total: u32, pictures: usize) -> u8
+    ensures { λ r. ⌜ r ≡ pick (eqb pictures total) done picturesLength ⌝ }
 {
-    if pictures == pictures_of(w).total {
+    if pictures == (total as usize) {
         return DONE;
     }
     PICTURES_LENGTH
 }
 
 // 6 and then 14, of what is lent to read.
-fn lent_refusal(bits: usize, w: &[u32; 52], tables: usize, pictures: usize) -> u8
+fn lent_refusal(bits: usize, total: u32, tables: usize, pictures: usize) -> u8
     requires { ⌜ bits ≤ 2 ⌝ }
-    ensures { λ r. ⌜ r ≡ lentRefusal bits (now (w .entry)) tables pictures ⌝ }
+    ensures { λ r. ⌜ r ≡ orElse (tablesRefusal bits tables) (pick (eqb pictures total) done picturesLength) ⌝ }
 {
-    or_else(tables_refusal(bits, tables), pictures_refusal(w, pictures))
+    or_else(
+        tables_refusal(bits, tables),
+        pictures_refusal(total, pictures),
+    )
 }
 
 // What a fill answers for an output so long: 0, or the first of 12, 13.
@@ -96,20 +102,21 @@ pub fn fill_refusal(w: &[u32; 52], out: usize) -> u8
 }
 
 // What a band answers for buffers so long: 0, or the first of 15, 12, 13, 6, 14. A glyph's pixel has so many
-// bits.
+// bits, and the words' pictures have `total` bytes.
 pub fn paint_refusal(
     bits: usize,
     w: &[u32; 52],
+    total: u32,
     low: u32,
     high: u32,
     out: usize,
     tables: usize,
     pictures: usize,
 ) -> u8
-    requires { ⌜ bits ≤ 2 ⌝ }
+    requires { ⌜ (bits ≤ 2) × (total ≡ picturesLen (now w)) ⌝ }
     ensures { λ r. ⌜ r ≡ paintRefusal bits (now (w .entry)) low high out tables pictures ⌝ }
 {
-    let lent = lent_refusal(bits, w, tables, pictures);
+    let lent = lent_refusal(bits, total, tables, pictures);
     let sized = or_else(size_refusal(w), or_else(output_refusal(w, out), lent));
     or_else(band_refusal(low, high), sized)
 }
@@ -135,19 +142,20 @@ fn length_refusal(w: &[u32; 52], out: usize) -> u8
 }
 
 // What line y answers for buffers so long: 0, or the first of 12, 15, 13, 6, 14. A glyph's pixel has so many
-// bits.
+// bits, and the words' pictures have `total` bytes.
 pub fn line_refusal(
     bits: usize,
     w: &[u32; 52],
+    total: u32,
     y: u32,
     out: usize,
     tables: usize,
     pictures: usize,
 ) -> u8
-    requires { ⌜ bits ≤ 2 ⌝ }
+    requires { ⌜ (bits ≤ 2) × (total ≡ picturesLen (now w)) ⌝ }
     ensures { λ r. ⌜ r ≡ lineRefusal bits (now (w .entry)) y out tables pictures ⌝ }
 {
-    let lent = lent_refusal(bits, w, tables, pictures);
+    let lent = lent_refusal(bits, total, tables, pictures);
     let placed = or_else(number_refusal(w, y), or_else(length_refusal(w, out), lent));
     or_else(size_refusal(w), placed)
 }

@@ -10,6 +10,7 @@ ghost use mathlib.Core.Path.{_≡_};
 ghost use Prim.Native.Nat.{_+_, _≤_, _<_};
 ghost use lib.ListN.{length, drop};
 ghost use Rattle.io.specs.Counts.{Counts};
+ghost use Rattle.display.specs.Reached.{Arranged};
 ghost use Rattle.lines.specs.Sizes.{mostKept, outLen};
 ghost use Rattle.lines.specs.Sheet.{firstTables};
 ghost use Rattle.lines.specs.Blocks.{feedOf};
@@ -37,7 +38,7 @@ fn step(
     block: &[u8],
     out: &mut [u8; OUT_LEN],
 ) -> Place
-    requires { ⌜ c .used < length (now block) ⌝ }
+    requires { ⌜ (c .used < length (now block)) × Arranged (c .going .state) ⌝ }
     ensures { λ r. ⌜ r .going ≡ feedOf (c .going) (now (tables .entry)) (now (text .entry))
         (drop (c .used) (now (block .entry))) .going ⌝ }
     ensures { λ r. ⌜ r .used ≡ c .used + feedOf (c .going) (now (tables .entry)) (now (text .entry))
@@ -66,6 +67,7 @@ fn pass(
     block: &[u8],
     out: &mut [u8; OUT_LEN],
 ) -> Going
+    requires { ⌜ Arranged (going .state) ⌝ }
     ensures { λ r. ⌜ r ≡ blockOf going (now (tables .entry)) (now (text .entry)) (now (block .entry)) .going ⌝ }
     ensures { λ _. ⌜ now (tables .exit)
         ≡ blockOf going (now (tables .entry)) (now (text .entry)) (now (block .entry)) .tables ⌝ }
@@ -80,7 +82,9 @@ fn pass(
 }
 
 // The end of the sheet.
-fn finish(going: Going, tables: &mut [u8], text: &[u8; MOST_KEPT], out: &mut [u8; OUT_LEN]) {
+fn finish(going: Going, tables: &mut [u8], text: &[u8; MOST_KEPT], out: &mut [u8; OUT_LEN])
+    requires { ⌜ Arranged (going .state) ⌝ }
+{
     let r = lines::finish(going, tables, text, out);
     write_front(out, r.count);
 }

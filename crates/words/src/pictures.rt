@@ -2,6 +2,6 @@
 
 // Where each frame layer's picture begins among the pictures, and their total length.
 pub struct Pictures {
-    pub starts: [usize; 8],
-    pub total: usize,
+    pub starts: [u32; 8],
+    pub total: u32,
 }

@@ -30,6 +30,14 @@ pub(crate) struct Selected {
     pub place: u32,
 }
 
+/// A painting of layers: the ends of a band, a whole frame, or the number of a line.
+#[derive(Clone, Copy, Debug, PartialEq, Eq)]
+pub enum Painting {
+    Band(u32, u32),
+    Frame,
+    Line(u32),
+}
+
 impl Display {
     /// "17 for a bit number other than 1 or 2 when making a state, handing back a fresh one-bit
     /// state"
@@ -244,6 +252,23 @@ impl Display {
             self.errors |= paint::line(&self.active, self.frame, y.into(), tables, pictures, out);
         }
         answer
+    }
+}
+
+impl Painting {
+    /// The call of a display that makes it.
+    pub fn make(
+        self,
+        display: &mut Display,
+        tables: &[u8],
+        pictures: &[u8],
+        out: &mut [u8],
+    ) -> u32 {
+        match self {
+            Painting::Band(low, high) => display.paint(low, high, tables, pictures, out),
+            Painting::Frame => display.frame(tables, pictures, out),
+            Painting::Line(y) => display.line(y, tables, pictures, out),
+        }
     }
 }
 

@@ -2,7 +2,7 @@
 //! owner of the buffers stores in them, what is lent to each call, and what a call tells.
 
 use crate::answers::WRONG_STATE;
-use crate::display::Display;
+use crate::display::{Display, Painting};
 use crate::state::{read_state, state_bytes};
 
 #[derive(Clone, Copy, Debug, PartialEq, Eq)]
@@ -166,6 +166,16 @@ pub enum Step {
 }
 
 impl Step {
+    /// The painting of layers that it is.
+    pub fn painting(&self) -> Option<Painting> {
+        match *self {
+            Step::Call { door: Door::Paint, a, b, .. } => Some(Painting::Band(a, b)),
+            Step::Call { door: Door::Frame, .. } => Some(Painting::Frame),
+            Step::Call { door: Door::Line, a, .. } => Some(Painting::Line(a)),
+            _ => None,
+        }
+    }
+
     /// As `display_calls.c` reads it, with the bytes that are stored.
     pub fn record(&self) -> Vec<u8> {
         const STORE: u32 = Door::ALL.len() as u32;

@@ -16,6 +16,7 @@ pub mod paint;
 pub mod rng;
 pub mod script;
 pub mod sheet;
+pub mod stale;
 pub mod state;
 pub mod sums;
 pub mod tables;

@@ -3,7 +3,7 @@
 
 use crate::answers::DONE;
 use crate::bench::print_bench;
-use crate::display::Display;
+use crate::display::{Display, Painting};
 use crate::sums::{blends, checksum, fades};
 use crate::tables::Bits;
 use std::ops::Range;
@@ -26,7 +26,8 @@ pub const TOGGLE: u8 = b'T';
 pub const START: u8 = b'G';
 /// Put byte a, and then b modulo 1,024 times more.
 pub const PUT: u8 = b'P';
-pub const MOST_PUTS: u32 = 1_024;
+/// How many times more a call is made stays below this.
+pub const MOST_TIMES: u32 = 1_024;
 /// Runs of the b bytes of the pictures from a on, or of what there is of them.
 pub const PUT_RUN: u8 = b'U';
 pub const WRITE_RUN: u8 = b'X';
@@ -36,6 +37,9 @@ pub const BAND: u8 = b'B';
 pub const FRAME: u8 = b'R';
 /// Paint line a into the output from byte b on, as many bytes as are lent or what there is of them.
 pub const LINE: u8 = b'Y';
+/// Each band, frame and line is made a modulo 1,024 times more, until the next of these or a new
+/// display.
+pub const AGAIN: u8 = b'H';
 /// Prints 32 bytes of the output from a on.
 pub const VIEW: u8 = b'V';
 const VIEW_LEN: usize = 32;
@@ -73,6 +77,16 @@ impl Call {
     pub fn lent_out(self, length: usize) -> Range<usize> {
         let first = if self.letter == LINE { PIXELS_ROOM.min(self.b as usize) } else { 0 };
         first..PIXELS_ROOM.min(first + length)
+    }
+
+    /// The painting of layers that it asks for.
+    pub fn painting(self) -> Option<Painting> {
+        match self.letter {
+            BAND => Some(Painting::Band(self.a, self.b)),
+            FRAME => Some(Painting::Frame),
+            LINE => Some(Painting::Line(self.a)),
+            _ => None,
+        }
     }
 
     /// Whether it writes to the output where it is not refused.
@@ -125,6 +139,8 @@ pub struct Stage {
     pub pictures: Vec<u8>,
     pub out: Vec<u8>,
     pub lent: Lent,
+    /// How many times more a band, a frame or a line is made.
+    pub more: u32,
 }
 
 impl Default for Stage {
@@ -146,6 +162,7 @@ impl Stage {
             tables: vec![0; TABLES_ROOM],
             pictures: vec![0; PIXELS_ROOM],
             out: vec![0; PIXELS_ROOM],
+            more: 0,
         }
     }
 
@@ -159,6 +176,9 @@ impl Stage {
     /// Does what one record asks and answers the call's number, 0 where it calls nothing, and the
     /// count of a run, 0 where it makes none.
     pub fn play(&mut self, call: Call) -> (u32, usize) {
+        if let Some(painting) = call.painting() {
+            return (self.paint(call, painting), 0);
+        }
         let Stage { display, tables, pictures, lent, .. } = self;
         match call.letter {
             PUT_RUN => display.put_run(&mut tables[..lent.tables], call.run(pictures)),
@@ -167,27 +187,33 @@ impl Stage {
         }
     }
 
-    /// The records that make no run.
+    /// Paints layers, as often as is asked for: the last answer.
+    fn paint(&mut self, call: Call, painting: Painting) -> u32 {
+        let Stage { display, tables, pictures, out, lent, more } = self;
+        let tables = &tables[..lent.tables];
+        let pictures = &pictures[..lent.pictures];
+        let out = &mut out[call.lent_out(lent.out)];
+        let paintings = (0..=*more).map(|_| painting.make(display, tables, pictures, out));
+        paintings.last().expect("one at least")
+    }
+
+    /// The records that make no run and paint no layer.
     fn play_one(&mut self, call: Call) -> u32 {
         let Call { letter, a, b } = call;
-        let Stage { display, tables, pictures, out, lent } = self;
+        let Stage { display, tables, pictures, out, lent, more } = self;
         let lent_tables = &mut tables[..lent.tables];
-        let lent_pictures = &pictures[..lent.pictures];
-        let lent_out = &mut out[call.lent_out(lent.out)];
         match letter {
             WRITE => return display.write(a, b),
             SELECT => return display.select(a),
             TOGGLE => return display.toggle(a),
             START => return display.start(),
             PUT => {
-                let puts = (0..=b % MOST_PUTS).map(|_| display.put(lent_tables, a as u8));
+                let puts = (0..=b % MOST_TIMES).map(|_| display.put(lent_tables, a as u8));
                 return puts.last().expect("one at least");
             }
-            FILL => return display.fill(lent_out),
-            BAND => return display.paint(a, b, lent_tables, lent_pictures, lent_out),
-            FRAME => return display.frame(lent_tables, lent_pictures, lent_out),
-            LINE => return display.line(a, lent_tables, lent_pictures, lent_out),
+            FILL => return display.fill(&mut out[call.lent_out(lent.out)]),
             NEW => return self.make(a),
+            AGAIN => *more = a % MOST_TIMES,
             LEND => self.lend(a, b as usize),
             FILL_TABLES => pattern(tables, a, b, false),
             FILL_PICTURES => pattern(pictures, a, b, true),

@@ -5,10 +5,12 @@
 //!   SPOONWING_RECORDS   how many generated records to compare, 30,000 unless set
 //!   SPOONWING_SEED      compares the script of this one seed only, aloud
 
-use second::beside::{fewer, figures, lines, seed, seeds};
-use second::cases::{gate_script, gen_calls, gen_edges, letter_script};
-use second::cases::{EDGES, RECORDS_A_SCRIPT, SCRIPTS};
-use second::script::{print_script, script_text, views, Call, Stage};
+use second::beside::{all_seeds, fewer, figures, lines, seed, seeds};
+use second::cases::{gate_script, gen_calls, gen_edges, gen_orders, letter_script};
+use second::cases::{EDGES, ORDERS, RECORDS_A_SCRIPT, SCRIPTS, TURNS};
+use second::script::{print_script, script_text, views, Call, Stage, BAND, FRAME, LINE};
+use second::stale::{Fault, Impostor};
+use std::collections::BTreeSet;
 use std::fs;
 use std::path::Path;
 
@@ -103,6 +105,48 @@ fn the_program_prints_the_edges() {
     for seed in 0..EDGES {
         compare(&format!("the script of edges of seed {seed}"), &gen_edges(seed), &figures)
             .unwrap_or_else(|told| panic!("{told}"));
+    }
+}
+
+/// 02 K5: "Every operation keeps it equal to what would be worked out afresh from the active words
+/// .. refused calls included. Painting uses it."
+#[test]
+fn the_program_prints_the_changes_of_order() {
+    for seed in all_seeds(ORDERS) {
+        let name = format!("the script of orders of seed {seed}");
+        compare(&name, &gen_orders(seed, TURNS), &figures).unwrap_or_else(|told| panic!("{told}"));
+    }
+}
+
+/// The letters of a script by which a display with that fault is told from ours.
+fn letters_that_part(fault: Fault, script: &[Call]) -> BTreeSet<u8> {
+    let mut impostor = Impostor::new(fault);
+    let (mut ours, mut theirs) = (Stage::new(), Stage::new());
+    let mut letters = BTreeSet::new();
+    for &call in script {
+        // What is not the same on the two stages is printed of both.
+        if ours.play(call) != impostor.play(&mut theirs, call) || ours != theirs {
+            letters.insert(call.letter);
+            theirs = ours.clone();
+        }
+    }
+    letters
+}
+
+/// In most of those scripts each way to paint tells a display that paints by what is not worked out
+/// afresh.
+#[test]
+fn an_order_that_is_not_kept_is_seen() {
+    let scripts: Vec<Vec<Call>> = (0..ORDERS).map(|seed| gen_orders(seed, TURNS)).collect();
+    let parting = |fault| scripts.iter().flat_map(move |calls| letters_that_part(fault, calls));
+    assert_eq!(parting(Fault::None).count(), 0, "the right one is told from ours");
+    for fault in Fault::KEPT {
+        let letters: Vec<u8> = parting(fault).collect();
+        for letter in [BAND, FRAME, LINE] {
+            let seen = letters.iter().filter(|&&parts| parts == letter).count();
+            println!("{fault:?} is seen by {} in {seen} scripts", letter as char);
+            assert!(2 * seen > scripts.len(), "{fault:?} is seen in {seen} scripts");
+        }
     }
 }
 

@@ -8,10 +8,11 @@
 //!   SPOONWING_SEED      compares the row of this one seed only, aloud
 
 use second::answers::*;
-use second::beside::{compare, fewer, seed, seeds, shown, with_fault, Calls, Doors};
-use second::cases::{gen_host, gen_row, HostCase, ROWS};
+use second::beside::{all_seeds, compare, fewer, seed, seeds, shown, with_fault, Calls, Doors};
+use second::cases::{gen_host, gen_order_row, gen_row, HostCase, ORDERS, ROWS};
 use second::doors::*;
 use second::host::{host_frame, image_words};
+use second::stale::{Fault, Impostor};
 use second::state::*;
 use second::tables::{Bits, Tables};
 use std::cell::RefCell;
@@ -77,6 +78,49 @@ fn the_calls_answer_the_generated_rows() {
     }
     println!("rows by their calls, from so many on: {counts:?}");
 }
+
+// ---- the order of layers, 02 K5
+
+#[test]
+fn the_calls_answer_the_changes_of_order() {
+    let doors = RefCell::new(Doors::start());
+    let calls = |steps: &[Step]| doors.borrow_mut().row(steps);
+    for seed in all_seeds(ORDERS) {
+        compare_row(&calls, &format!("the row of orders of seed {seed}"), gen_order_row(seed))
+            .unwrap_or_else(|told| panic!("{told}"));
+    }
+}
+
+/// In most of those rows each way to paint tells calls that paint by what is not worked out of the
+/// lent bytes.
+#[test]
+fn an_order_that_is_not_kept_is_seen() {
+    let rows: Vec<Vec<Step>> = (0..ORDERS).map(gen_order_row).collect();
+    let seen = |fault: Fault, way: Door| {
+        let is_seen = |row: &&Vec<Step>| {
+            let doors = row.iter().filter_map(|step| match step {
+                Step::Call { door, .. } => Some(*door),
+                Step::Store { .. } => None,
+            });
+            let told = with_fault(|_, _, _| {})(row).into_iter().zip(Impostor::new(fault).row(row));
+            let mut parted = doors.zip(told).filter(|(_, (ours, theirs))| {
+                ours.answer != theirs.answer || ours.out != theirs.out
+            });
+            parted.any(|(door, _)| door == way)
+        };
+        rows.iter().filter(is_seen).count()
+    };
+    for way in [Door::Paint, Door::Frame, Door::Line] {
+        assert_eq!(seen(Fault::None, way), 0, "the right calls are told from ours");
+        for fault in Fault::KEPT.into_iter().chain(Fault::LENT) {
+            let seen = seen(fault, way);
+            println!("{fault:?} is seen by {way:?} in {seen} rows");
+            assert!(2 * seen > rows.len(), "{fault:?} is seen by {way:?} in {seen} rows");
+        }
+    }
+}
+
+// ---- alignments and NULL
 
 /// A screen of one column and three lines, shown, with a bank selected that can be put to; and a
 /// run of bytes that are two writes. Selected and profile are not as a call writes them.

@@ -98,7 +98,7 @@ fn fade_is_another_formula() {
 }
 
 /// Plays scripts and shows each call with the stage before it, its answer and the stage after it. A
-/// record of several puts is several calls, and so is a run; these are not shown.
+/// record of several puts or paintings is several calls, and so is a run; these are not shown.
 fn each_call(mut look: impl FnMut(&Stage, Call, u32, &Stage)) {
     for seed in 0..SCRIPTS {
         let mut stage = Stage::new();
@@ -108,6 +108,7 @@ fn each_call(mut look: impl FnMut(&Stage, Call, u32, &Stage)) {
             let is_one = match call.letter {
                 PUT => call.b == 0,
                 PUT_RUN | WRITE_RUN => false,
+                BAND | FRAME | LINE => before.more == 0,
                 letter => CALLS.contains(&letter),
             };
             if is_one {

@@ -30,6 +30,9 @@ returns-2 c =
 profile-for-requires : tie.Need-profile-for-requires
 profile-for-requires c κs = search needs
 
+layout-of-requires : tie.Need-layout-of-requires
+layout-of-requires c κs = search needs
+
 frame-requires : tie.Need-frame-requires
 frame-requires c κs = search needs
 
@@ -41,12 +44,14 @@ same-length c = search needs
 
 returns-3 : tie.Need-returns-3
 returns-3 c =
-    let w = c .before .before .before .before .before .before .before .before .before .before .words-at .ensures in
-    let p = c .before .before .before .before .before .before .profile-for .ensures in
+    let w =
+    c .before .before .before .before .before .before .before .before .before .before .before .before .words-at
+    .ensures in
+    let p = c .before .before .before .before .before .before .before .before .profile-for .ensures in
     host-painted _ _ _ _ _
-    (c .before .before .before .before .before .before .before .before .before .before .before .if1 .left) _ _ _
-    (c .before .before .before .before .before .before .before .before .refusal-of .ensures ∙ ap checkOf w)
-    (c .before .before .before .before .before .before .before .if2 .left) _
+    (c .before .before .before .before .before .before .before .before .before .before .before .before .before .if1 .left) _ _ _
+    (c .before .before .before .before .before .before .before .before .before .before .refusal-of .ensures ∙ ap checkOf w)
+    (c .before .before .before .before .before .before .before .before .before .if2 .left) _
     (rw (w, p) at (c .before .before .before .frame .ensures .0))
     (rw (w, p) at (c .before .before .before .frame .ensures .1))
 
@@ -61,6 +66,7 @@ spoonwing-frame-spec =
     cast-result-2
     returns-2
     profile-for-requires
+    layout-of-requires
     frame-requires
     cast-result-3
     same-length

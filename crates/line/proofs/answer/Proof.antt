@@ -12,7 +12,7 @@ use Rattle.line.proofs.answer.Statement.{statement}
 use Rattle.line.proofs.answer.Tie as tie
 
 refuse-requires : tie.Need-refuse-requires
-refuse-requires c κs = reply-long (c .before .before .before .before .before .pre)
+refuse-requires c κs = reply-long (c .before .before .before .before .before .pre .1)
 
 same-length : tie.Need-same-length
 same-length c = search needs
@@ -34,7 +34,7 @@ read-bytes-requires c κs = search needs
 
 refuse-requires-2 : tie.Need-refuse-requires-2
 refuse-requires-2 c κs =
-    reply-long (c .before .before .before .before .before .before .before .before .before .before .pre)
+    reply-long (c .before .before .before .before .before .before .before .before .before .before .pre .1)
 
 same-length-2 : tie.Need-same-length-2
 same-length-2 c = search needs

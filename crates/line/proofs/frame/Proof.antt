@@ -7,7 +7,7 @@ use Rattle.line.proofs.frame.Statement.{statement}
 use Rattle.line.proofs.frame.Tie as tie
 
 refuse-requires : tie.Need-refuse-requires
-refuse-requires c κs = reply-long (c .before .before .before .before .before .before .pre)
+refuse-requires c κs = reply-long (c .before .before .before .before .before .before .pre .1)
 
 same-length : tie.Need-same-length
 same-length c = search needs
@@ -29,10 +29,10 @@ part-frame-start c = search needs
 
 part-frame-end : tie.Need-part-frame-end
 part-frame-end c =
-    omega (arith, c .lent-len .ensures .1, reply-long (c .before .before .before .before .before .before .pre))
+    omega (arith, c .lent-len .ensures .1, reply-long (c .before .before .before .before .before .before .pre .1))
 
 frame-requires : tie.Need-frame-requires
-frame-requires c κs = search needs
+frame-requires c κs = c .before .before .before .before .before .before .before .pre .0
 
 refuse-requires-2 : tie.Need-refuse-requires-2
 refuse-requires-2 c κs =
@@ -40,7 +40,7 @@ refuse-requires-2 c κs =
     let n = c .before .before .before .before .before .before .before .lent-len .ensures in
     let f = c .before .before .before .before .before .frame in
     reply-kept (a .args .t) (a .args .tables .now) (a .args .pictures .now) _ (a .args .reply .now) (f .result)
-    (c .before .before .before .before .before .before .before .before .if1 .left) (n .0) (n .1) (a .pre)
+    (c .before .before .before .before .before .before .before .before .if1 .left) (n .0) (n .1) (a .pre .1)
     (f .ensures .0) _ (f .ensures .1) (f .kept .1 .1 .1 .0)
 
 same-length-2 : tie.Need-same-length-2
@@ -55,7 +55,7 @@ returns-2 c =
     let f = c .before .before .before .before .before .before .before .before .frame in
     frame-stopped (a .args .t) (a .args .tables .now) (a .args .pictures .now) _ (a .args .reply .now) (f .result)
     (c .before .before .before .before .before .before .before .before .before .before .before .if1 .left) (n .0)
-    (n .1) (a .pre) (f .ensures .0) _ _ (c .before .before .before .before .if2 .taken)
+    (n .1) (a .pre .1) (f .ensures .0) _ _ (c .before .before .before .before .if2 .taken)
     (c .before .before .refuse2 .ensures)
 
 head-requires : tie.Need-head-requires
@@ -64,7 +64,7 @@ head-requires c κs =
     let n = c .before .before .before .before .before .before .before .lent-len .ensures in
     let f = c .before .before .before .before .before .frame in
     reply-kept (a .args .t) (a .args .tables .now) (a .args .pictures .now) _ (a .args .reply .now) (f .result)
-    (c .before .before .before .before .before .before .before .before .if1 .left) (n .0) (n .1) (a .pre)
+    (c .before .before .before .before .before .before .before .before .if1 .left) (n .0) (n .1) (a .pre .1)
     (f .ensures .0) _ (f .ensures .1) (f .kept .1 .1 .1 .0)
 
 add-t16 : tie.Need-add-t16
@@ -82,7 +82,7 @@ returns-3 c =
     let f = c .before .before .before .before .before .before .before .before .frame in
     frame-painted (a .args .t) (a .args .tables .now) (a .args .pictures .now) _ (a .args .reply .now) (f .result)
     (c .before .before .before .before .before .before .before .before .before .before .before .if1 .left) (n .0)
-    (n .1) (a .pre) (f .ensures .0) _ (f .ensures .1) (f .kept .1 .1 .1 .0) _
+    (n .1) (a .pre .1) (f .ensures .0) _ (f .ensures .1) (f .kept .1 .1 .1 .0) _
     (c .before .before .before .before .if2 .left) (c .before .before .head .ensures)
 
 pub frame-spec : {M : Type 1} → statement M

@@ -43,7 +43,7 @@ print-line-requires c κs =
             k .kept .1 .1 .1 .0,
             c .before .before .before .before .before .before .before .before .before .no-reply .ensures .0,
           )),
-      c .before .before .before .before .before .before .before .before .before .before .before .before .before .pre,
+      c .before .before .before .before .before .before .before .before .before .before .before .before .before .pre .1,
     )
 
 same-length : tie.Need-same-length

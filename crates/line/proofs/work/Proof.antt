@@ -6,6 +6,7 @@ use mathlib.Core.Path.{refl, ap}
 use Rattle.steps.specs.declared.form.Parts.{Parts}
 use Rattle.steps.proofs.FormLaws.{picture-room, writes-room}
 use Rattle.line.proofs.LineLaws.{reply-long, work-bad, work-is}
+use Rattle.line.proofs.Arranged.{started-arranged, steps-arranged}
 use Rattle.line.proofs.work.Statement.{statement}
 use Rattle.line.proofs.work.Tie as tie
 
@@ -13,7 +14,7 @@ parts-of-requires : tie.Need-parts-of-requires
 parts-of-requires c κs = search needs
 
 refuse-requires : tie.Need-refuse-requires
-refuse-requires c κs = reply-long (c .before .before .before .before .before .before .pre)
+refuse-requires c κs = reply-long (c .before .before .before .before .before .before .pre .1)
 
 same-length : tie.Need-same-length
 same-length c = search needs
@@ -53,7 +54,14 @@ part-frame-end : tie.Need-part-frame-end
 part-frame-end c = search needs
 
 frame-requires : tie.Need-frame-requires
-frame-requires c κs = search needs
+frame-requires c κs =
+    let s = c .before .before .before .before .before .before .before .before .before .before .before .before .before .before in
+    let a = s .args in (
+      rw (c .before .before .before .start .ensures)
+          (started-arranged _ (steps-arranged (a .state) (a .tables .now) _ (a .b .now) _
+          (c .before .before .before .before .before .before .run .ensures) (s .pre .0))),
+      s .pre .1,
+    )
 
 same-length-2 : tie.Need-same-length-2
 same-length-2 c = search needs

@@ -5,7 +5,7 @@ use mathlib.Core.Path.{_≡_}
 use Prim.Native.Nat.{_≤_, _-_}
 use native.Mathlib.Omega.{arith}
 use Rattle.words.specs.Order.{layersBelow}
-use Rattle.order.specs.Engine.Packed.{packed}
+use Rattle.order.specs.Layout.{packed}
 use Rattle.order.proofs.PackedLaws.{order-none, order-all}
 use Rattle.order.proofs.order_of.Statement.{statement}
 use Rattle.order.proofs.order_of.Tie as tie

@@ -19,6 +19,9 @@ loop-holds c = (search needs, starts-none _)
 picture-len-at-requires : tie.Need-picture-len-at-requires Inv-loop μ-loop
 picture-len-at-requires c κs = search needs
 
+cast-len : tie.Need-cast-len Inv-loop μ-loop
+cast-len c = omega (arith, c .picture-len-at .ensures .1)
+
 mul-starts : tie.Need-mul-starts Inv-loop μ-loop
 mul-starts c = search needs
 
@@ -58,6 +61,7 @@ pictures-of-spec =
     μ-loop
     loop-holds
     picture-len-at-requires
+    cast-len
     mul-starts
     array-write-starts
     add-total

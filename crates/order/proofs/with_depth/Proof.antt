@@ -4,7 +4,8 @@ use borrow.Author.Needs.{needs}
 use mathlib.Core.Path.{_≡_, ap, _∙_}
 use Prim.Native.Nat.{_≤_, _-_}
 use native.Mathlib.Omega.{arith}
-use Rattle.order.specs.Engine.Packed.{found as foundTo, packed}
+use Rattle.order.specs.Layout.{packed}
+use Rattle.order.specs.Engine.Found.{found as foundTo}
 use Rattle.order.proofs.PackedLaws.{found-none, order-depth}
 use Rattle.order.proofs.with_depth.Statement.{statement}
 use Rattle.order.proofs.with_depth.Tie as tie

@@ -33,8 +33,11 @@ seen c = sym (asked (c .before)) ∙ c .if1 .taken
 room : (c : tie.Then1) → c .before .before .before .args .t1 .count < 8
 room c = order-room _ _ _ _ (omega arith) (c .before .before .before .pre .2) (seen c)
 
-mul-order : tie.Need-mul-order
-mul-order c = omega (arith, room c)
+cast-order : tie.Need-cast-order
+cast-order c = search needs
+
+cast-order-2 : tie.Need-cast-order-2
+cast-order-2 c = search needs
 
 element-write-order : tie.Need-element-write-order
 element-write-order c = room c
@@ -55,7 +58,8 @@ with-layer-spec =
     (tie.spec
     layer-of-requires
     is-here-requires
-    mul-order
+    cast-order
+    cast-order-2
     element-write-order
     add-order
     returns

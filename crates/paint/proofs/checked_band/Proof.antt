@@ -1,7 +1,8 @@
 -- `paint::checked_band` meets its contract: it is the part of all lines, refused as a band is. Assumes nothing.
 use borrow.Author.Needs.{needs}
-use mathlib.Core.Path.{_≡_, ap, _∙_}
+use mathlib.Core.Path.{_≡_, _∙_}
 use denote.Ref.{now}
+use Rattle.order.proofs.LayoutLaws.{held-total}
 use Rattle.frames.specs.Scene.{Scene, sceneOf}
 use Rattle.frames.specs.Frame.{refusalOf}
 use Rattle.paint.proofs.PartLaws.{whole-asked, whole-told, whole-output}
@@ -12,13 +13,13 @@ bits-of-requires : tie.Need-bits-of-requires
 bits-of-requires c κs = search needs
 
 paint-refusal-requires : tie.Need-paint-refusal-requires
-paint-refusal-requires c κs = search needs
+paint-refusal-requires c κs = (c .bits-of .ensures .2, held-total _ _ (c .before .before .before .before .pre))
 
 screen-height-requires : tie.Need-screen-height-requires
 screen-height-requires c κs = search needs
 
-cast-t18 : tie.Need-cast-t18
-cast-t18 c = search needs
+cast-t20 : tie.Need-cast-t20
+cast-t20 c = search needs
 
 -- ---- what is refused, with the profile's bits
 
@@ -35,9 +36,11 @@ refused c = rw (c .before .bits-of .ensures .0) at (c .paint-refusal .ensures)
 
 paint-unless-requires : tie.Need-paint-unless-requires
 paint-unless-requires c κs =
-    let r = c .before .before in
-    rw (c .before .screen-height .ensures)
-    (whole-asked (scene r) _ _ (start r .args .fresh) _ _ (start r .args .errors) (refused r))
+    let r = c .before .before in (
+      start r .pre,
+      rw (c .before .screen-height .ensures)
+          (whole-asked (scene r) _ _ (start r .args .fresh) _ _ (start r .args .errors) (refused r)),
+    )
 
 same-length : tie.Need-same-length
 same-length c = search needs
@@ -57,7 +60,7 @@ checked-band-spec =
     bits-of-requires
     paint-refusal-requires
     screen-height-requires
-    cast-t18
+    cast-t20
     paint-unless-requires
     same-length
     returns)

@@ -2,6 +2,7 @@
 use borrow.Author.Needs.{needs}
 use mathlib.Core.Path.{_≡_, _∙_}
 use denote.Ref.{now}
+use Rattle.order.proofs.LayoutLaws.{held-total}
 use Rattle.frames.specs.Scene.{Scene, sceneOf}
 use Rattle.frames.specs.Line.{lineRefusalOf}
 use Rattle.paint.proofs.PartLaws.{line-asked, line-told, line-output}
@@ -12,7 +13,7 @@ bits-of-requires : tie.Need-bits-of-requires
 bits-of-requires c κs = search needs
 
 line-refusal-requires : tie.Need-line-refusal-requires
-line-refusal-requires c κs = search needs
+line-refusal-requires c κs = (c .bits-of .ensures .2, held-total _ _ (c .before .before .before .before .pre))
 
 -- ---- what is refused, with the profile's bits
 
@@ -28,7 +29,8 @@ refused : (c : tie.After-line-refusal)
 refused c = rw (c .before .bits-of .ensures .0) at (c .line-refusal .ensures)
 
 paint-unless-requires : tie.Need-paint-unless-requires
-paint-unless-requires c κs = line-asked (scene (c .before)) _ _ _ (start (c .before) .args .errors) (refused (c .before))
+paint-unless-requires c κs =
+    let r = c .before in (start r .pre, line-asked (scene r) _ _ _ (start r .args .errors) (refused r))
 
 same-length : tie.Need-same-length
 same-length c = search needs

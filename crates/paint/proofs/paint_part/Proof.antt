@@ -28,7 +28,7 @@ ground-of-requires c κs = search needs
 lay-ground-requires : tie.Need-lay-ground-requires
 lay-ground-requires c κs =
     let a = c .before .before .before .before .before .before .before in
-    rw (a .pre .long) (omega (arith, four (a .args .part .count) (widthOf (now (a .args .w)))))
+    rw (a .pre .1 .long) (omega (arith, four (a .args .part .count) (widthOf (now (a .args .w)))))
 
 same-length : tie.Need-same-length
 same-length c = ap length (c .before .before .lay-ground .ensures) ∙ length-each _ _
@@ -48,7 +48,7 @@ bits-of-requires c κs = search needs
 plan-of-requires : tie.Need-plan-of-requires
 plan-of-requires c κs =
     let a = c .before .before .before .before .before .before in
-    rw (c .bits-of .ensures .0) (bits-few (a .args .profile), a .pre .lent .tables)
+    rw (c .bits-of .ensures .0) (bits-few (a .args .profile), a .pre .0, a .pre .1 .lent .tables)
 
 -- ---- the plan, with the profile's bits
 
@@ -69,7 +69,7 @@ marked c = rw (c .before .bits-of .ensures .0) at (c .plan-of .ensures .1)
 paint-rows-requires : tie.Need-paint-rows-requires
 paint-rows-requires c κs =
     let a = start (c .before) in
-    ((a .pre .long, a .pre .wide), part-ready _ _ _ (a .pre .lent) (planned (c .before)))
+    ((a .pre .1 .long, a .pre .1 .wide), part-ready _ _ _ (a .pre .1 .lent) (planned (c .before)))
 
 same-length-2 : tie.Need-same-length-2
 same-length-2 c = c .before .before .paint-rows .kept .0
@@ -80,9 +80,9 @@ returns-2 c =
     let a = start p in
     let on = sym (c .before .before .before .before .before .before .before .is-shown .ensures)
     ∙ not-false _ (c .before .before .before .before .before .before .if1 .left) in
-    part-on _ _ _ _ _ _ _ on (marked p ∙ marks-is _ _ _ _ (a .pre .low) (a .pre .high))
+    part-on _ _ _ _ _ _ _ on (marked p ∙ marks-is _ _ _ _ (a .pre .1 .low) (a .pre .1 .high))
     (c .before .before .paint-rows .ensures .laid _ (refl, (refl, refl))
-    (record { order = a .pre .low; end = a .pre .high; planned = planned p }))
+    (record { order = a .pre .1 .low; end = a .pre .1 .high; planned = planned p }))
 
 pub paint-part-spec : {M : Type 1} → statement M
 paint-part-spec =

@@ -8,7 +8,8 @@ returns : tie.Need-returns
 returns c = part-refused _ _ (c .before .before .before .before .args .fresh) _ _ _ (c .if1 .taken)
 
 paint-part-requires : tie.Need-paint-part-requires
-paint-part-requires c κs = c .before .before .before .before .before .pre (c .before .if1 .left)
+paint-part-requires c κs =
+    let pre = c .before .before .before .before .before .pre in (pre .0, pre .1 (c .before .if1 .left))
 
 same-length : tie.Need-same-length
 same-length c = search needs

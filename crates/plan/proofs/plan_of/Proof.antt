@@ -9,10 +9,10 @@ use Prim.Native.Nat.{_<_}
 use lib.ListN.{length, getD}
 use denote.Ref.{now}
 use Rattle.order.specs.declared.Order.{Order}
-use Rattle.words.specs.declared.pictures.Pictures.{Pictures}
 use Rattle.words.specs.Order.{orderOf}
 use Rattle.words.proofs.OrderLaws.{orderOf-enabled, length-orderOf-le}
 use Rattle.order.proofs.PackedLaws.{packed-at}
+use Rattle.order.proofs.LayoutLaws.{held-order, held-count, held-starts}
 use Rattle.plan.proofs.plan_of.Statement.{statement}
 use Rattle.plan.proofs.plan_of.Tie as tie
 
@@ -23,11 +23,8 @@ Inv-loop bits w frame errors tables part starts layers count plan₀ i₀ plan i
 abbrev μ-loop : tie.MeasureT-loop
 μ-loop bits w frame errors tables part starts layers count plan₀ i₀ plan i = count - i
 
-order-of-requires : tie.Need-order-of-requires Inv-loop μ-loop
-order-of-requires c κs = search needs
-
-pictures-of-requires : tie.Need-pictures-of-requires Inv-loop μ-loop
-pictures-of-requires c κs = search needs
+cast-count : tie.Need-cast-count Inv-loop μ-loop
+cast-count c = search needs
 
 empty-requires : tie.Need-empty-requires Inv-loop μ-loop
 empty-requires c κs = search needs
@@ -35,46 +32,33 @@ empty-requires c κs = search needs
 loop-holds : tie.Need-loop-holds Inv-loop μ-loop
 loop-holds c = (search needs, plan-none _ _ _ _ _ _ _ (c .empty .ensures))
 
-few : (c : tie.In-loop Inv-loop μ-loop)
-    → c .before .loop .i < length
-    (orderOf (now (c .before .before .before .before .before .before .before .before .args .w)))
-few c =
-    omega (arith, ap (λ (o : Order). o .count) (c .before .before .before .before .before .before .order-of .ensures))
+-- ---- the held order is that of the words
+
+abbrev start : tie.In-loop Inv-loop μ-loop → tie.Start Inv-loop μ-loop
+start c = c .before .before .before .before .before .before .before
+
+few : (c : tie.In-loop Inv-loop μ-loop) → c .before .loop .i < length (orderOf (now (start c .args .w)))
+few c = omega (arith, held-count _ _ (start c .pre .1))
 
 layer-at : (c : tie.In-loop Inv-loop μ-loop)
-    → getD (c .before .before .before .before .before .before .order-of .result .layers) (c .before .loop .i) 0
-    ≡ getD (orderOf (now (c .before .before .before .before .before .before .before .before .args .w)))
-    (c .before .loop .i) 0
+    → getD (start c .args .layout .order .layers) (c .before .loop .i) 0
+    ≡ getD (orderOf (now (start c .args .w))) (c .before .loop .i) 0
 layer-at c =
-    ap (λ (o : Order). getD (o .layers) (c .before .loop .i) 0)
-    (c .before .before .before .before .before .before .order-of .ensures)
-    ∙ packed-at (orderOf (now (c .before .before .before .before .before .before .before .before .args .w)))
-    (c .before .loop .i) (few c)
-
-mul-with-layer : tie.Need-mul-with-layer Inv-loop μ-loop
-mul-with-layer c =
-    omega (
-      arith,
-      few c,
-      length-orderOf-le
-          (now (c .before .before .before .before .before .before .before .before .args .w)),
-    )
+    ap (λ (o : Order). getD (o .layers) (c .before .loop .i) 0) (held-order _ _ (start c .pre .1))
+    ∙ packed-at (orderOf (now (start c .args .w))) (c .before .loop .i) (few c)
 
 array-read-with-layer : tie.Need-array-read-with-layer Inv-loop μ-loop
-array-read-with-layer c =
-    omega (
-      arith,
-      few c,
-      length-orderOf-le
-          (now (c .before .before .before .before .before .before .before .before .args .w)),
-    )
+array-read-with-layer c = omega (arith, few c, length-orderOf-le (now (start c .args .w)))
+
+cast-with-layer : tie.Need-cast-with-layer Inv-loop μ-loop
+cast-with-layer c = search needs
 
 with-layer-requires : tie.Need-with-layer-requires Inv-loop μ-loop
 with-layer-requires c κs = (
-  c .before .before .before .before .before .before .before .before .pre .0,
+  start c .pre .0,
   rw (layer-at c) (orderOf-enabled _ _ (few c) .0),
-  c .before .before .before .before .before .before .before .before .pre .1,
-  ap (λ (p : Pictures). p .starts) (c .before .before .before .before .before .pictures-of .ensures),
+  start c .pre .2,
+  held-starts _ _ (start c .pre .1),
   plan-room _ _ _ _ _ _ _ _ (few c) (c .before .loop .inv .1),
 )
 
@@ -93,8 +77,9 @@ loop-again c = (
 
 returns : tie.Need-returns Inv-loop μ-loop
 returns c =
-    let e = ap (λ (o : Order). o .count) (c .before .before .before .before .before .before .order-of .ensures) in
-    let a = c .before .before .before .before .before .before .before .before .args in
+    let s = c .before .before .before .before .before .before .before in
+    let a = s .args in
+    let e = held-count _ _ (s .pre .1) in
     plan-all (a .bits) (now (a .w)) (a .frame) (now (a .tables)) _ _ (c .before .loop .i) _ (omega arith)
     (c .before .loop .inv .1)
 
@@ -104,12 +89,11 @@ plan-of-spec =
     (tie.spec
     Inv-loop
     μ-loop
-    order-of-requires
-    pictures-of-requires
+    cast-count
     empty-requires
     loop-holds
-    mul-with-layer
     array-read-with-layer
+    cast-with-layer
     with-layer-requires
     add-i
     loop-less

@@ -89,6 +89,9 @@ mul-step-of c = search needs
 array-read-step-of : tie.Need-array-read-step-of
 array-read-step-of c = search needs
 
+cast-step-of : tie.Need-cast-step-of
+cast-step-of c = search needs
+
 step-of-requires : tie.Need-step-of-requires
 step-of-requires c κs =
     let pre = start (c .before) .pre in (
@@ -123,6 +126,7 @@ with-layer-spec =
     returns-2
     mul-step-of
     array-read-step-of
+    cast-step-of
     step-of-requires
     pushed-requires
     returns-3)

@@ -1,5 +1,5 @@
--- `refusals::line_refusal` meets its contract: the definitions of what it calls, put together.
--- Assumes nothing.
+-- `refusals::line_refusal` meets its contract: the definitions of what it calls, put together, at the
+-- total that is asked. Assumes nothing.
 use borrow.Author.Needs.{needs}
 use Rattle.frames.specs.Line.{lineRefusal}
 use Rattle.refusals.proofs.line_refusal.Statement.{statement}
@@ -37,6 +37,7 @@ returns c =
       c .before .before .before .before .length-refusal .ensures,
       c .before .before .before .before .before .number-refusal .ensures,
       c .before .before .before .before .before .before .lent-refusal .ensures,
+      c .before .before .before .before .before .before .before .pre .1,
     )
 
 pub line-refusal-spec : {M : Type 1} → statement M

@@ -1,5 +1,5 @@
--- `refusals::paint_refusal` meets its contract: the definitions of what it calls, put together.
--- Assumes nothing.
+-- `refusals::paint_refusal` meets its contract: the definitions of what it calls, put together, at the
+-- total that is asked. Assumes nothing.
 use borrow.Author.Needs.{needs}
 use Rattle.frames.specs.Frame.{paintRefusal}
 use Rattle.refusals.proofs.paint_refusal.Statement.{statement}
@@ -37,6 +37,7 @@ returns c =
       c .before .before .before .before .output-refusal .ensures,
       c .before .before .before .before .before .size-refusal .ensures,
       c .before .before .before .before .before .before .lent-refusal .ensures,
+      c .before .before .before .before .before .before .before .pre .1,
     )
 
 pub paint-refusal-spec : {M : Type 1} → statement M

@@ -1,15 +1,17 @@
--- `sheet::run` meets its contract: the buffers keep their lengths. The measure is the count of
--- turns. Assumes nothing.
+-- `sheet::run` meets its contract: the buffers keep their lengths, and the state what it holds for painting. The measure is
+-- the count of turns. Assumes nothing.
 use borrow.Author.Needs.{needs}
 use mathlib.Core.Path.{_≡_}
 use lib.ListN.{length}
 use Rattle.io.specs.Counts.{Counts}
+use Rattle.display.specs.Reached.{Arranged}
+use Rattle.lines.proofs.Arranged.{begun-arranged, blockOf-arranged}
 use Rattle.sheet.proofs.run.Statement.{statement}
 use Rattle.sheet.proofs.run.Tie as tie
 
 abbrev Inv-loop : tie.InvT-loop
 Inv-loop tables₀ text₀ block₀ out₀ turns₀ going₀ n₀ tables text block out turns going n =
-    (length tables ≡ length tables₀) × (length block ≡ length block₀) × Counts n block
+    (length tables ≡ length tables₀) × (length block ≡ length block₀) × Counts n block × Arranged (going .state)
 
 abbrev μ-loop : tie.MeasureT-loop
 μ-loop tables₀ text₀ block₀ out₀ turns₀ going₀ n₀ tables text block out turns going n = turns
@@ -21,7 +23,7 @@ read-requires : tie.Need-read-requires Inv-loop μ-loop
 read-requires c κs = search needs
 
 loop-holds : tie.Need-loop-holds Inv-loop μ-loop
-loop-holds c = search needs
+loop-holds c = (search needs, search needs, search needs, rw (c .before .before .before .before .begin .ensures) begun-arranged)
 
 slice-reshare-prefix-pass : tie.Need-slice-reshare-prefix-pass Inv-loop μ-loop
 slice-reshare-prefix-pass c = search needs
@@ -42,7 +44,13 @@ loop-less : tie.Need-loop-less Inv-loop μ-loop
 loop-less c = search needs
 
 loop-again : tie.Need-loop-again Inv-loop μ-loop
-loop-again c = search needs
+loop-again c =
+    let p = c .before .before .before .before .before .before in (
+      search needs,
+      search needs,
+      search needs,
+      rw (p .pass .ensures .0) (blockOf-arranged _ _ _ _ (p .before .before .before .before .before .before .before .loop .inv .3)),
+    )
 
 finish-requires : tie.Need-finish-requires Inv-loop μ-loop
 finish-requires c κs = search needs

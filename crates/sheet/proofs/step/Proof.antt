@@ -29,7 +29,7 @@ add-t13 c =
     omega (
       arith,
       step-bounds (a .args .c .going) (a .args .tables .now) (a .args .text .now) (a .args .block .now)
-          (a .args .c .used) _ (a .pre) (f .0) (f .1 .1 .1 .1) .1,
+          (a .args .c .used) _ (a .pre .0) (f .0) (f .1 .1 .1 .1) .1,
       a,
     )
 
@@ -42,7 +42,7 @@ returns c =
     c .before .before .before .before .before .before .before .before .before .before .before .before .before .before in
     let f = c .before .before .before .before .before .before .before .feed .ensures in
     step-is (a .args .c .going) (a .args .tables .now) (a .args .text .now) (a .args .block .now) (a .args .c .used) _
-    (a .pre) (f .0) (f .1 .1 .1 .1) _ _ (f .1 .0) (f .1 .1 .0)
+    (a .pre .0) (f .0) (f .1 .1 .1 .1) _ _ (f .1 .0) (f .1 .1 .0)
 
 pub step-spec : {M : Type 1} → statement M
 step-spec =

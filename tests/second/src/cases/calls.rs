@@ -2,8 +2,8 @@
 
 use crate::answers::DONE;
 use crate::cases::scene::{controller, nudge, scene, spoil, Room};
-use crate::cases::{banks, letter_script, lines, runs};
-use crate::display::{Display, ITEM_LEN};
+use crate::cases::{banks, letter_script, lines, orders, runs};
+use crate::display::{Display, Painting, ITEM_LEN};
 use crate::rng::Rng;
 use crate::script::*;
 use crate::tables::{Bank, Bits, Kind, COLOURS};
@@ -22,8 +22,9 @@ pub const RECORDS_A_SCRIPT: usize = 1_000;
 pub const EDGES: u64 = 12;
 
 /// The first seed with which the gate's script has calls of every kind.
-const GATE_SEED: u64 = 213;
+const GATE_SEED: u64 = 2_015;
 const GATE_RECORDS: usize = 2_000;
+const GATE_TURNS: usize = 20;
 
 /// A script of n records. It is made up of short runs, each going on from what the calls before it
 /// left.
@@ -46,6 +47,7 @@ pub fn gen_calls(seed: u64, n: usize) -> Vec<Call> {
             38 => author.lend_the_others(),
             39..=45 => author.paint_text(),
             46..=53 => author.paint_lines(),
+            54 | 55 => author.paint_again(),
             _ => author.paint(),
         }
     }
@@ -83,13 +85,29 @@ pub fn gen_edges(seed: u64) -> Vec<Call> {
     author.calls
 }
 
-/// The script that the gate runs: all blends, the fades of ten lengths, calls of every kind, and
-/// letters of one bit and two.
+/// A script in which other words are given so often, by which the order of layers or the places of
+/// pictures are others: they are copied, refused, not looked at or left pending. After it layers are
+/// painted each way.
+pub fn gen_orders(seed: u64, turns: usize) -> Vec<Call> {
+    let mut author = Author::new(seed ^ 0x6F72_6465);
+    author.show_order();
+    for _ in 0..turns {
+        let old = author.stage.display.active().clone();
+        author.rearrange();
+        author.paint_each_way(&old);
+    }
+    author.calls
+}
+
+/// The script that the gate runs: all blends, the fades of ten lengths, calls of every kind, changes
+/// of order, and letters of one bit and two.
 pub fn gate_script() -> Vec<Call> {
     let blends = (0..256).map(|alpha| Call { letter: BLENDS, a: alpha, b: 0 });
     let lengths = [0, 1, 2, 3, 4, 255, 256, 32_768, 65_534, 65_535];
     let fades = lengths.map(|length| Call { letter: FADES, a: length, b: 0 });
-    blends.chain(fades).chain(gen_calls(GATE_SEED, GATE_RECORDS)).chain(letter_script()).collect()
+    let calls = gen_calls(GATE_SEED, GATE_RECORDS).into_iter();
+    let orders = gen_orders(0, GATE_TURNS).into_iter();
+    blends.chain(fades).chain(calls).chain(orders).chain(letter_script()).collect()
 }
 
 struct Author {
@@ -209,6 +227,12 @@ impl Author {
         }
     }
 
+    /// From now on a painting is made once or a few times.
+    fn paint_again(&mut self) {
+        let more = self.rng.pick(&[0, 0, 1, 2, 3, MOST_TIMES, MOST_TIMES + 1, MOST_TIMES + 2]);
+        self.call(AGAIN, more, 0);
+    }
+
     /// Changes tables: all of them, words of a bank, or by puts, single ones or runs.
     fn load(&mut self) {
         let kind = self.rng.pick(&[
@@ -314,9 +338,9 @@ impl Author {
             let end = kind.end(self.stage.display.bits()) as i64;
             let mut left = (end + self.rng.range(-30, 2)) as u32;
             let byte = u32::from(self.rng.byte());
-            while left >= MOST_PUTS {
-                self.call(PUT, byte, MOST_PUTS - 1);
-                left -= MOST_PUTS;
+            while left >= MOST_TIMES {
+                self.call(PUT, byte, MOST_TIMES - 1);
+                left -= MOST_TIMES;
             }
             self.call(PUT, byte, left);
             self.call(PUT, 1, 0);
@@ -491,6 +515,61 @@ impl Author {
         self.lend_tables(3);
         self.lend(1, pictures as usize, 3);
         self.lend(2, out as usize, 3);
+    }
+
+    // ---- changes of order
+
+    /// Shows layers that lie over each other, on a display of either number of bits.
+    fn show_order(&mut self) {
+        let bits = self.rng.pick(&Bits::ALL);
+        self.call(NEW, bits.number() as u32, 0);
+        for (letter, step) in [(FILL_TABLES, 0x0601_0003), (FILL_PICTURES, 0x9E37_79B1)] {
+            let first = self.rng.u32();
+            self.call(letter, first, step);
+        }
+        let words = orders::scene(&mut self.rng);
+        self.write_missing(&words);
+        self.call(START, 0, 0);
+    }
+
+    /// Writes words that are arranged otherwise than the active ones, and as a rule starts; at times
+    /// another call comes before, which has nothing to do with them.
+    fn rearrange(&mut self) {
+        match self.rng.below(12) {
+            0 => self.toggle(),
+            1 => self.load(),
+            2 => self.paint_again(),
+            _ => {}
+        }
+        let wish = orders::wish(&mut self.rng, self.stage.display.active());
+        if self.rng.percent(20) {
+            self.run_writes(&wish);
+        }
+        self.write_missing(&wish);
+        if self.rng.percent(85) {
+            self.call(START, 0, 0);
+        }
+    }
+
+    /// Paints by a frame, by a band and by a line, in any order; at times by the pictures that the
+    /// words before, or the pending ones, would ask for.
+    fn paint_each_way(&mut self, old: &Words) {
+        let active = self.stage.display.active().clone();
+        let pending = self.stage.display.pending().pictures_len();
+        let total = self.rng.pick(&[old.pictures_len(), pending]);
+        for painting in orders::paintings(&mut self.rng, active.height()) {
+            let (letter, a, b, out) = match painting {
+                Painting::Band(low, high) => (BAND, low, high, active.output_len()),
+                Painting::Frame => (FRAME, 0, 0, active.output_len()),
+                Painting::Line(y) => (LINE, y, 0, active.line_len()),
+            };
+            self.fill_buffer(FILL_OUT);
+            let pictures = if self.rng.percent(10) { total } else { active.pictures_len() };
+            self.lend_tables(0);
+            self.lend(1, pictures as usize, 0);
+            self.lend(2, out as usize, 0);
+            self.call(letter, a, b);
+        }
     }
 }
 

@@ -3,13 +3,14 @@
 use crate::answers::DONE;
 use crate::cases::calls::{new_bits, odd_band, wish};
 use crate::cases::scene::{controller, pictures, spoil};
-use crate::cases::{banks, damage, hosts, lines, runs};
-use crate::display::Display;
+use crate::cases::{banks, damage, hosts, lines, orders, runs};
+use crate::display::{Display, Painting};
 use crate::doors::*;
 use crate::rng::Rng;
-use crate::state::{read_state, PLACE_AT, PROFILE_AT, SELECTED_AT, SELECTION_AT, STATE_LEN};
+use crate::state::{read_state, ACTIVE_AT, FRAME_AT, PLACE_AT, PROFILE_AT};
+use crate::state::{SELECTED_AT, SELECTION_AT, STATE_LEN};
 use crate::tables::{Bank, Kind};
-use crate::words::WORDS;
+use crate::words::{Words, WORDS};
 
 /// The rows that the tests compare unless told otherwise, of the seeds from 0 on.
 pub const ROWS: u64 = 500;
@@ -35,6 +36,20 @@ pub fn gen_row(seed: u64) -> Vec<Step> {
             46 | 47 => author.run_writes(),
             _ => author.lend_wrong_state(),
         }
+    }
+    author.steps
+}
+
+/// A row in which other words are given, by which the order of layers or the places of pictures are
+/// others: they are copied, refused, not looked at, left pending, or stored as the active ones by the
+/// host's own hand. After it layers are painted each way.
+pub fn gen_order_row(seed: u64) -> Vec<Step> {
+    let mut author = Author::new(seed ^ 0x6F72_6465);
+    author.show_order();
+    for _ in 0..orders::TURNS {
+        let old = author.display().active().clone();
+        author.rearrange();
+        author.paint_each_way(&old);
     }
     author.steps
 }
@@ -233,7 +248,20 @@ impl Author {
         if self.rng.percent(10) {
             wish.0[0] &= !0b100;
         }
-        let pending = display.pending();
+        self.write_words(&wish);
+        if self.rng.percent(20) {
+            let register = self.rng.pick(&[52, 53, 255, 256, u32::MAX]);
+            let value = self.rng.u32();
+            self.call(Door::Write, register, value);
+        }
+        for _ in 0..self.rng.range(1, 2) {
+            self.call(Door::Start, 0, 0);
+        }
+    }
+
+    /// Makes words the pending ones, by single writes or by a run.
+    fn write_words(&mut self, wish: &Words) {
+        let pending = self.display().pending().clone();
         let others = (0..WORDS).filter(|&i| pending.0[i] != wish.0[i]);
         let writes = others.map(|register| (register as u8, wish.0[register]));
         if self.rng.percent(30) {
@@ -242,14 +270,6 @@ impl Author {
             for (register, value) in writes {
                 self.call(Door::Write, register.into(), value);
             }
-        }
-        if self.rng.percent(20) {
-            let register = self.rng.pick(&[52, 53, 255, 256, u32::MAX]);
-            let value = self.rng.u32();
-            self.call(Door::Write, register, value);
-        }
-        for _ in 0..self.rng.range(1, 2) {
-            self.call(Door::Start, 0, 0);
         }
     }
 
@@ -373,6 +393,61 @@ impl Author {
         if self.rng.percent(40) {
             let bytes = self.rng.bytes(out);
             self.store(OUTPUT, bytes);
+        }
+    }
+
+    // ---- changes of order
+
+    /// Shows layers that lie over each other, on a display of either number of bits.
+    fn show_order(&mut self) {
+        self.make();
+        let words = orders::scene(&mut self.rng);
+        self.write_words(&words);
+        self.call(Door::Start, 0, 0);
+        self.store_tables();
+        // As many as eight layers can need.
+        let bytes = pictures(&mut self.rng, 4 * 8 * 9 * 5);
+        self.store(PICTURES, bytes);
+    }
+
+    /// Has words that are arranged otherwise stored as the active ones, or written and as a rule
+    /// started.
+    fn rearrange(&mut self) {
+        let display = self.display();
+        if self.rng.percent(25) {
+            let words = orders::by_hand(&mut self.rng, display.active());
+            let mut state = self.stage.rooms[STATE][..STATE_LEN].to_vec();
+            let bytes: Vec<u8> = words.0.into_iter().flat_map(u32::to_le_bytes).collect();
+            state[ACTIVE_AT..FRAME_AT].copy_from_slice(&bytes);
+            self.store(STATE, state);
+            return;
+        }
+        let wish = orders::wish(&mut self.rng, display.active());
+        self.write_words(&wish);
+        if self.rng.percent(85) {
+            self.call(Door::Start, 0, 0);
+        }
+    }
+
+    /// Paints by a frame, by a band and by a line, in any order; at times by the pictures that the
+    /// words before, or the pending ones, would ask for.
+    fn paint_each_way(&mut self, old: &Words) {
+        let display = self.display();
+        let pending = display.pending().pictures_len();
+        let total = self.rng.pick(&[old.pictures_len(), pending]);
+        for painting in orders::paintings(&mut self.rng, display.height()) {
+            let (door, a, b) = match painting {
+                Painting::Band(low, high) => (Door::Paint, low, high),
+                Painting::Frame => (Door::Frame, 0, 0),
+                Painting::Line(y) => (Door::Line, y, 0),
+            };
+            let bytes = self.rng.bytes(self.right(door, OUTPUT));
+            self.store(OUTPUT, bytes);
+            let mut lent = self.lent(door);
+            if self.rng.percent(10) {
+                lent[PICTURES].length = length(total);
+            }
+            self.call_with(door, a, b, lent);
         }
     }
 }

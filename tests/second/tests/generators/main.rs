@@ -5,6 +5,7 @@ mod doors;
 mod letters;
 mod lines;
 mod mends;
+mod orders;
 mod runs;
 
 use letters::{bits_name, text_kinds, text_names, value_names};
@@ -12,8 +13,8 @@ use letters::{made_name, made_names, others_name, others_names};
 use lines::{line_kinds, line_names, LineCall};
 use second::answers::*;
 use second::cases::{end_name, gate_script, gen_calls, gen_edges, gen_host, gen_mend, gen_page};
-use second::cases::{gen_row, gen_sheet, HostCase, EDGES, HOST_CALLS, LINES_A_SHEET};
-use second::cases::{RECORDS_A_SCRIPT, SCRIPTS, SHEETS};
+use second::cases::{gen_order_row, gen_orders, gen_row, gen_sheet, HostCase};
+use second::cases::{EDGES, HOST_CALLS, LINES_A_SHEET, RECORDS_A_SCRIPT, SCRIPTS, SHEETS};
 use second::display::ITEM_LEN;
 use second::draw::List;
 use second::host::{host_frame, image_words};
@@ -272,8 +273,12 @@ fn kinds(before: &Stage, call: Call, told: (u32, usize), after: &Stage) -> Vec<S
         }
         PUT_RUN | WRITE_RUN => run_kinds(before, call, told, after),
         NEW => vec![made_name(call.a, before.display.bits())],
+        AGAIN => vec![again_name(call.a).into()],
         _ => Vec::new(),
     });
+    if before.more > 0 {
+        kinds.extend(again_kinds(before, call, after));
+    }
     let bits = before.display.bits();
     let is_others = answer == WRONG_TABLES && before.lent.tables == bits.other().tables_len();
     kinds.extend(is_others.then(|| others_name(&letter.to_string(), bits)));
@@ -284,6 +289,28 @@ fn kinds(before: &Stage, call: Call, told: (u32, usize), after: &Stage) -> Vec<S
         kinds.push(format!("{letter} sets error bits"));
     }
     kinds
+}
+
+fn again_name(more: u32) -> &'static str {
+    match (more < MOST_TIMES, more % MOST_TIMES) {
+        (_, 0) => "no painting made again",
+        (true, _) => "paintings made again",
+        (false, _) => "paintings made again, by a number that is too large",
+    }
+}
+
+/// What a record does while each painting is made more than once: whether all of the times show, and
+/// whether the next display has its paintings made once.
+fn again_kinds(before: &Stage, call: Call, after: &Stage) -> Vec<String> {
+    let letter = call.letter as char;
+    let mut once = Stage { more: 0, ..before.clone() };
+    once.play(call);
+    let so = [
+        ("again", call.painting().is_some()),
+        ("again, which shows", once.out != after.out),
+        ("ends it", call.letter == NEW),
+    ];
+    so.iter().filter(|(_, is_so)| *is_so).map(|(kind, _)| format!("{letter} {kind}")).collect()
 }
 
 /// Where a run ends and with which answer, and what is behind it: in its table, by what a put then
@@ -411,6 +438,13 @@ fn wanted_kinds() -> Vec<String> {
         "B sets error bits",
         "R sets error bits",
         "P sets error bits",
+        "no painting made again",
+        "paintings made again",
+        "paintings made again, by a number that is too large",
+        "B again, which shows",
+        "R again",
+        "Y again",
+        "N ends it",
     ];
     wanted.extend(others.into_iter().chain(RUNS).map(String::from));
     wanted
@@ -467,6 +501,10 @@ fn a_seed_is_a_case() {
     assert_eq!(format!("{:?}", gen_calls(7, 100)), format!("{:?}", gen_calls(7, 100)));
     assert_eq!(gen_row(7), gen_row(7));
     assert_ne!(gen_row(7), gen_row(8));
+    assert_eq!(gen_orders(7, 20), gen_orders(7, 20));
+    assert_ne!(gen_orders(7, 20), gen_orders(8, 20));
+    assert_eq!(gen_order_row(7), gen_order_row(7));
+    assert_ne!(gen_order_row(7), gen_order_row(8));
     assert_eq!(format!("{:?}", gen_mend(7)), format!("{:?}", gen_mend(7)));
     assert_ne!(gen_mend(7).lent, gen_mend(8).lent);
     assert_eq!(gen_page(7, 40), gen_page(7, 40));

@@ -1,7 +1,7 @@
 -- `display::doors::spoonwing_display_paint` meets its contract: a wrong length is the first case, and else
 -- the state is taken apart, the call made and the state put back. Assumes nothing.
 use borrow.Author.Needs.{needs}
-use Rattle.display.proofs.DoorLaws.{door-length, door-done, buffer-length, buffer-done}
+use Rattle.display.proofs.DoorLaws.{door-length, door-done, buffer-length, buffer-done, taken-arranged}
 use Rattle.display.proofs.doors.spoonwing_display_paint.Statement.{statement}
 use Rattle.display.proofs.doors.spoonwing_display_paint.Tie as tie
 
@@ -17,7 +17,7 @@ taken-requires : tie.Need-taken-requires
 taken-requires c κs = search needs
 
 paint-requires : tie.Need-paint-requires
-paint-requires c κs = search needs
+paint-requires c κs = taken-arranged _ _ (c .before .taken .ensures)
 
 given-requires : tie.Need-given-requires
 given-requires c κs = search needs

@@ -1,7 +1,8 @@
 -- `display::doors::spoonwing_display_start` meets its contract: a wrong length is the first case, and else
 -- the state is taken apart, the call made and the state put back. Assumes nothing.
 use borrow.Author.Needs.{needs}
-use Rattle.display.proofs.DoorLaws.{door-length, door-done}
+use Rattle.display.proofs.DoorLaws.{door-length, door-bare}
+use Rattle.display.proofs.BareLaws.{start-blind}
 use Rattle.display.proofs.doors.spoonwing_display_start.Statement.{statement}
 use Rattle.display.proofs.doors.spoonwing_display_start.Tie as tie
 
@@ -11,11 +12,11 @@ cast-result c = search needs
 returns : tie.Need-returns
 returns c = door-length _ _ (c .if1 .taken)
 
-taken-requires : tie.Need-taken-requires
-taken-requires c κs = search needs
+bare-requires : tie.Need-bare-requires
+bare-requires c κs = search needs
 
-start-requires : tie.Need-start-requires
-start-requires c κs = search needs
+begun-requires : tie.Need-begun-requires
+begun-requires c κs = search needs
 
 given-requires : tie.Need-given-requires
 given-requires c κs = search needs
@@ -25,10 +26,10 @@ same-length c = search needs
 
 returns-2 : tie.Need-returns-2
 returns-2 c =
-    door-done _ _ _ _ _ _ (c .before .before .before .before .before .before .before .if1 .left)
-    (c .before .before .before .before .before .taken .ensures) (c .before .before .before .before .start .ensures)
+    door-bare _ _ _ start-blind _ _ _ _ (c .before .before .before .before .before .before .before .if1 .left)
+    (c .before .before .before .before .before .bare .ensures) (c .before .before .before .before .begun .ensures)
     (c .before .before .given .ensures .0) (c .before .before .given .ensures .1)
 
 pub spoonwing-display-start-spec : {M : Type 1} → statement M
 spoonwing-display-start-spec =
-    tie.close (tie.spec cast-result returns taken-requires start-requires given-requires same-length returns-2)
+    tie.close (tie.spec cast-result returns bare-requires begun-requires given-requires same-length returns-2)

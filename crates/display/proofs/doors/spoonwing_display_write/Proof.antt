@@ -1,7 +1,8 @@
 -- `display::doors::spoonwing_display_write` meets its contract: a wrong length is the first case, and else
 -- the state is taken apart, the call made and the state put back. Assumes nothing.
 use borrow.Author.Needs.{needs}
-use Rattle.display.proofs.DoorLaws.{door-length, door-done}
+use Rattle.display.proofs.DoorLaws.{door-length, door-bare}
+use Rattle.display.proofs.BareLaws.{write-blind}
 use Rattle.display.proofs.doors.spoonwing_display_write.Statement.{statement}
 use Rattle.display.proofs.doors.spoonwing_display_write.Tie as tie
 
@@ -11,8 +12,8 @@ cast-result c = search needs
 returns : tie.Need-returns
 returns c = door-length _ _ (c .if1 .taken)
 
-taken-requires : tie.Need-taken-requires
-taken-requires c κs = search needs
+bare-requires : tie.Need-bare-requires
+bare-requires c κs = search needs
 
 write-requires : tie.Need-write-requires
 write-requires c κs = search needs
@@ -25,10 +26,12 @@ same-length c = search needs
 
 returns-2 : tie.Need-returns-2
 returns-2 c =
-    door-done _ _ _ _ _ _ (c .before .before .before .before .before .before .before .if1 .left)
-    (c .before .before .before .before .before .taken .ensures) (c .before .before .before .before .write .ensures)
+    let a = c .before .before .before .before .before .before .before .before .before .args in
+    door-bare _ _ _ (write-blind (a .register) (a .value)) _ _ _ _
+    (c .before .before .before .before .before .before .before .if1 .left)
+    (c .before .before .before .before .before .bare .ensures) (c .before .before .before .before .write .ensures)
     (c .before .before .given .ensures .0) (c .before .before .given .ensures .1)
 
 pub spoonwing-display-write-spec : {M : Type 1} → statement M
 spoonwing-display-write-spec =
-    tie.close (tie.spec cast-result returns taken-requires write-requires given-requires same-length returns-2)
+    tie.close (tie.spec cast-result returns bare-requires write-requires given-requires same-length returns-2)

@@ -1,52 +1,18 @@
--- `display::doors::taken` meets its contract: each part is what the call for it ensures. Assumes nothing.
+-- `display::doors::taken` meets its contract: a bare state, with what is held worked out from its active words.
+-- Assumes nothing.
 use borrow.Author.Needs.{needs}
 use Rattle.display.proofs.DoorLaws.{taken-all}
 use Rattle.display.proofs.doors.taken.Statement.{statement}
 use Rattle.display.proofs.doors.taken.Tie as tie
 
-words-at-requires : tie.Need-words-at-requires
-words-at-requires c κs = search needs
+bare-requires : tie.Need-bare-requires
+bare-requires c κs = search needs
 
-words-at-requires-2 : tie.Need-words-at-requires-2
-words-at-requires-2 c κs = search needs
-
-word-at-requires : tie.Need-word-at-requires
-word-at-requires c κs = search needs
-
-word-at-requires-2 : tie.Need-word-at-requires-2
-word-at-requires-2 c κs = search needs
-
-word-at-requires-3 : tie.Need-word-at-requires-3
-word-at-requires-3 c κs = search needs
-
-word-at-requires-4 : tie.Need-word-at-requires-4
-word-at-requires-4 c κs = search needs
-
-word-at-requires-5 : tie.Need-word-at-requires-5
-word-at-requires-5 c κs = search needs
-
-word-at-requires-6 : tie.Need-word-at-requires-6
-word-at-requires-6 c κs = search needs
+layout-of-requires : tie.Need-layout-of-requires
+layout-of-requires c κs = search needs
 
 returns : tie.Need-returns
-returns c =
-    taken-all _ _ _ _ _ _ _ _ _ (c .before .before .before .before .before .before .before .words-at .ensures)
-    (c .before .before .before .before .before .before .words-at2 .ensures)
-    (c .before .before .before .before .before .word-at .ensures)
-    (c .before .before .before .before .word-at2 .ensures)
-    (c .before .before .before .word-at3 .ensures)
-    (c .before .before .word-at4 .ensures) (c .before .word-at5 .ensures) (c .word-at6 .ensures)
+returns c = taken-all _ _ _ (c .before .before .before .bare .ensures) (c .layout-of .ensures)
 
 pub taken-spec : {M : Type 1} → statement M
-taken-spec =
-    tie.close
-    (tie.spec
-    words-at-requires
-    words-at-requires-2
-    word-at-requires
-    word-at-requires-2
-    word-at-requires-3
-    word-at-requires-4
-    word-at-requires-5
-    word-at-requires-6
-    returns)
+taken-spec = tie.close (tie.spec bare-requires layout-of-requires returns)

@@ -1,14 +1,17 @@
--- `figures::bench::load` meets its contract: the tables keep their length. The measure is the
--- bytes left. Assumes nothing.
+-- `figures::bench::load` meets its contract: each put keeps the layers arranged, and the tables their length.
+-- The measure is the bytes left. Assumes nothing.
 use borrow.Author.Needs.{needs}
 use Prim.Native.Nat.{_-_, _≤_}
 use mathlib.Core.Path.{_≡_}
 use lib.ListN.{length}
+use Rattle.display.specs.Reached.{Arranged}
+use Rattle.figures.proofs.Kept.{kept}
 use Rattle.figures.proofs.bench.load.Statement.{statement}
 use Rattle.figures.proofs.bench.load.Tie as tie
 
 abbrev Inv-loop : tie.InvT-loop
-Inv-loop tables₀ selection bytes told₀ i₀ tables told i = (i ≤ length bytes) × (length tables ≡ length tables₀)
+Inv-loop tables₀ selection bytes told₀ i₀ tables told i =
+    (i ≤ length bytes) × (length tables ≡ length tables₀) × Arranged (told .state)
 
 abbrev μ-loop : tie.MeasureT-loop
 μ-loop tables₀ selection bytes told₀ i₀ tables told i = length bytes - i
@@ -17,7 +20,7 @@ select-requires : tie.Need-select-requires Inv-loop μ-loop
 select-requires c κs = search needs
 
 loop-holds : tie.Need-loop-holds Inv-loop μ-loop
-loop-holds c = search needs
+loop-holds c = search kept
 
 shared-slice-read-put : tie.Need-shared-slice-read-put Inv-loop μ-loop
 shared-slice-read-put c = search needs
@@ -32,7 +35,7 @@ loop-less : tie.Need-loop-less Inv-loop μ-loop
 loop-less c = search needs
 
 loop-again : tie.Need-loop-again Inv-loop μ-loop
-loop-again c = search needs
+loop-again c = search kept
 
 same-length : tie.Need-same-length Inv-loop μ-loop
 same-length c = search needs

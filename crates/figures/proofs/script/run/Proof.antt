@@ -1,14 +1,16 @@
--- `figures::script::run` meets its contract: the buffers keep their lengths. The measure is the
--- count of turns. Assumes nothing.
+-- `figures::script::run` meets its contract: each turn keeps the layers arranged, and the buffers their
+-- lengths. The measure is the count of turns. Assumes nothing.
 use borrow.Author.Needs.{needs}
 use mathlib.Core.Path.{_≡_}
 use lib.ListN.{length}
+use Rattle.display.specs.Reached.{Arranged}
 use Rattle.figures.proofs.script.run.Statement.{statement}
 use Rattle.figures.proofs.script.run.Tie as tie
 
 abbrev Inv-loop : tie.InvT-loop
 Inv-loop tables₀ pictures₀ out₀ text₀ turns₀ s₀ more₀ tables pictures out text turns s more =
     (length tables ≡ length tables₀) × (length pictures ≡ length pictures₀) × (length out ≡ length out₀)
+    × Arranged (s .state)
 
 abbrev μ-loop : tie.MeasureT-loop
 μ-loop tables₀ pictures₀ out₀ text₀ turns₀ s₀ more₀ tables pictures out text turns s more = turns
@@ -35,7 +37,9 @@ loop-less : tie.Need-loop-less Inv-loop μ-loop
 loop-less c = search needs
 
 loop-again : tie.Need-loop-again Inv-loop μ-loop
-loop-again c = search needs
+loop-again c =
+    let b = c .before .before .before .before .before .before .before .before in
+    (search needs, search needs, search needs, b .turn .ensures)
 
 same-length : tie.Need-same-length Inv-loop μ-loop
 same-length c = search needs

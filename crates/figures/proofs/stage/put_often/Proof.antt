@@ -1,12 +1,14 @@
--- `figures::stage::put_often` meets its contract: the measure is the puts left. Assumes nothing.
+-- `figures::stage::put_often` meets its contract: each put keeps the layers arranged. The measure is the
+-- puts left. Assumes nothing.
 use borrow.Author.Needs.{needs}
 use mathlib.Core.Path.{_≡_}
 use lib.ListN.{length}
+use Rattle.display.specs.Reached.{Arranged}
 use Rattle.figures.proofs.stage.put_often.Statement.{statement}
 use Rattle.figures.proofs.stage.put_often.Tie as tie
 
 abbrev Inv-loop : tie.InvT-loop
-Inv-loop tables₀ lent byte more told₀ left₀ tables told left = length tables ≡ length tables₀
+Inv-loop tables₀ lent byte more told₀ left₀ tables told left = (length tables ≡ length tables₀) × Arranged (told .state)
 
 abbrev μ-loop : tie.MeasureT-loop
 μ-loop tables₀ lent byte more told₀ left₀ tables told left = left

@@ -3,15 +3,17 @@
 use borrow.Author.Needs.{needs}
 use native.Mathlib.Omega.{arith}
 use Prim.Native.Nat.{_-_, _≤_}
-use mathlib.Core.Path.{_≡_, refl, sym, _∙_}
+use mathlib.Core.Path.{_≡_, refl, sym, ap, _∙_}
 use lib.ListN.{length, take}
 use Rattle.lists.specs.Over.{over}
 use Rattle.lists.proofs.Over.{over-none}
 use Rattle.lines.specs.Sizes.{mostKept, outLen}
-use Rattle.lines.specs.Blocks.{feedOf}
+use Rattle.display.specs.Reached.{Arranged}
+use Rattle.lines.specs.Blocks.{Batch, feedOf}
 use Rattle.lines.specs.Engine.Turns.{batchAt}
 use Rattle.lines.proofs.BlockLaws.{Leads, leads-first, goesOn-inside, goesOn-first, feed-turn, feed-is}
 use Rattle.lines.proofs.BlockLaws.{over-over}
+use Rattle.lines.proofs.Arranged.{turnOf-arranged}
 use Rattle.lines.proofs.blocks.feed_in.Statement.{statement}
 use Rattle.lines.proofs.blocks.feed_in.Tie as tie
 
@@ -20,7 +22,7 @@ Inv-loop tables₀ text₀ block out₀ c₀ tables text out c =
     Leads block (batchAt c tables text out) (feedOf (c₀ .going) tables₀ text₀ block)
     × (out ≡ over (take (c .count) out) out₀) × (c .used ≤ length block) × (c .count ≤ outLen)
     × (c .used ≡ 0 → c .count ≡ 0) × (length tables ≡ length tables₀) × (length text ≡ mostKept)
-    × (length out ≡ outLen)
+    × (length out ≡ outLen) × Arranged (c .going .state)
 
 abbrev μ-loop : tie.MeasureT-loop
 μ-loop tables₀ text₀ block out₀ c₀ tables text out c = length block - c .used
@@ -37,6 +39,7 @@ loop-holds c =
       refl,
       a .pre .0,
       a .pre .1,
+      a .pre .2,
     )
 
 goes-on-requires : tie.Need-goes-on-requires Inv-loop μ-loop
@@ -48,7 +51,7 @@ turn-requires c κs =
     let b =
     goesOn-inside _ _ _ (sym (c .before .before .before .before .goes-on .ensures)
     ∙ c .before .before .before .if1 .taken) in
-    (b .0, b .1, i .6, i .7)
+    (b .0, b .1, i .6, i .7, i .8)
 
 loop-less : tie.Need-loop-less Inv-loop μ-loop
 loop-less c =
@@ -71,6 +74,8 @@ loop-again c =
       search needs,
       search needs,
       search needs,
+      rw (ap (λ (b : Batch). b .going .state) (t .ensures .0))
+          (turnOf-arranged _ (batchAt (l .c) (l .tables) (l .text) (l .out)) (l .inv .8)),
     )
 
 same-length : tie.Need-same-length Inv-loop μ-loop
