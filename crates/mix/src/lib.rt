@@ -17,14 +17,15 @@ pub const OPAQUE: u8 = 255;
 // Read as signed, a number of 32 bits is negative from here on.
 const NEGATIVE: u32 = 2147483648;
 
-// `a` of 255 parts of `over`, the rest of `under`, rounded to the nearest, in sixteen bits. For t at
-// most 65,152 the quotient t / 255 is (t + 1) * 257 / 65,536, which takes a product and a shift; 128 is
-// the sum's own 127 and that 1.
+// `a` of 255 parts of `over`, the rest of `under`, rounded to the nearest, in sixteen bits, in the steps
+// of the board's logic: t divided by 255 is t, 1 and t's own upper part together, shifted by 8. That
+// holds up to 65,152, and no t is larger.
 pub fn blended(a: u16, over: u16, under: u16) -> u16
     requires { ⌜ (a < 256) × (over < 256) × (under < 256) ⌝ }
     ensures { λ r. ⌜ (r ≡ blendOf a over under) × (r < 256) ⌝ }
 {
-    ((((a * over + (255 - a) * under + 128) as u32) * 257) / 65536) as u16
+    let t = a * over + (255 - a) * under + 127;
+    (t + 1 + (t >> 8)) >> 8
 }
 
 // The same of bytes.

@@ -12,19 +12,59 @@ use second::tables::Bits;
 const SCRIPTS: u64 = 30;
 const CALLS_A_SCRIPT: usize = 1_500;
 
-/// The quotient q of t by 255 is the one number with 255·q at most t and t below 255·(q + 1), and
-/// board logic finds it by shifts. Both are tried on every input.
+/// What a blend divides by 255.
+fn dividend(a: u32, over: u32, under: u32) -> u32 {
+    a * over + 255 * under - a * under + 127
+}
+
+/// With every alpha, channel over and channel under.
+fn all_dividends() -> impl Iterator<Item = ([u32; 3], u32)> {
+    (0..1 << 24).map(|n| {
+        let [a, over, under] = [n >> 16, n >> 8 & 255, n & 255];
+        ([a, over, under], dividend(a, over, under))
+    })
+}
+
+/// The quotient q of t by 255 is the one number with 255·q at most t and t below 255·(q + 1).
 #[test]
-fn blend_is_two_other_formulas() {
-    for a in 0..=255_u32 {
-        for over in 0..=255 {
-            for under in 0..=255 {
-                let total = a * over + 255 * under - a * under + 127;
-                let q = blend(a, over, under);
-                assert!(255 * q <= total && total < 255 * (q + 1), "({a},{over},{under})");
-                assert_eq!(q, (total + 1 + (total >> 8)) >> 8, "({a},{over},{under})");
-            }
-        }
+fn blend_is_the_quotient() {
+    for ([a, over, under], t) in all_dividends() {
+        let q = blend(a, over, under);
+        assert!(255 * q <= t && t < 255 * (q + 1), "({a},{over},{under})");
+    }
+}
+
+/// 02 K6: "they add 1 and the number's own upper part (shifted by 8), then shift by 8", and "the
+/// answers do not change."
+#[test]
+fn blend_in_the_boards_steps() {
+    for ([a, over, under], t) in all_dividends() {
+        assert_eq!(blend(a, over, under), (t + 1 + (t >> 8)) >> 8, "({a},{over},{under})");
+    }
+}
+
+/// The same with a step left out or a shift of 7 is seen.
+#[test]
+fn other_steps_give_other_blends() {
+    let others: [fn(u32) -> u32; 4] = [
+        |t| (t + (t >> 8)) >> 8,
+        |t| (t + 1) >> 8,
+        |t| (t + 1 + (t >> 7)) >> 8,
+        |t| (t + 1 + (t >> 8)) >> 7,
+    ];
+    for (number, other) in others.iter().enumerate() {
+        let differs = |([a, over, under], t): ([u32; 3], u32)| blend(a, over, under) != other(t);
+        assert!(all_dividends().any(differs), "way {number} to divide");
+    }
+}
+
+/// 02 K6: "The largest dividend is 65,152": that of 255 at alpha 255, whatever is under it, and at
+/// alpha 0 over 255, whatever it is of.
+#[test]
+fn largest_dividend() {
+    assert_eq!(all_dividends().map(|(_, t)| t).max(), Some(65_152));
+    for x in 0..=255 {
+        assert_eq!([dividend(255, 255, x), dividend(0, x, 255)], [65_152; 2], "{x}");
     }
 }
 

@@ -1,54 +1,49 @@
--- `mix::blended` meets its contract: the two products together are at most 255 * 255, so that the sum
--- fits sixteen bits; for t up to 65,152, (t + 1) * 257 / 65,536 is t / 255. Assumes nothing.
-use Prim.Native.Nat.{_+_, _-_, _*_, _≤_}
+-- `mix::blended` meets its contract: no dividend is larger than 65,152, so that it and what the steps add
+-- to it fit sixteen bits; up to there the steps are the division. Assumes nothing.
+use mathlib.Core.Path.{_≡_}
+use Prim.Native.Nat.{_<_, _≤_, _^_}
 use native.Mathlib.Omega.{arith}
 use borrow.Author.Needs.{needs}
 use Rattle.mix.specs.Blend.{blendOf}
-use Rattle.mix.proofs.Parts.{parts-le}
+use Rattle.mix.specs.Shifts.{dividend, largest, summed, shifted}
+use Rattle.mix.proofs.ShiftLaws.{dividend-le, summed-lt, blendOf-shifted}
 use Rattle.mix.proofs.blended.Statement.{statement}
 use Rattle.mix.proofs.blended.Tie as tie
 
-bound : (c : tie.Start) → c .args .a * c .args .over + (255 - c .args .a) * c .args .under ≤ 255 * 255
-bound c = parts-le (c .args .a) 255 (c .args .over) (c .args .under) 255 (omega arith) (omega arith) (omega arith)
+module _ (c : tie.Start) where
+  bound : dividend (c .args .a) (c .args .over) (c .args .under) ≤ largest
+  bound = dividend-le (c .args .a) (c .args .over) (c .args .under) (omega arith) (omega arith) (omega arith)
 
-mul-result : tie.Need-mul-result
-mul-result c = omega (arith, bound c)
+  narrow : summed (dividend (c .args .a) (c .args .over) (c .args .under)) < 2 ^ 16
+  narrow = summed-lt (dividend (c .args .a) (c .args .over) (c .args .under)) bound
 
-sub-result : tie.Need-sub-result
-sub-result c = search needs
+  divided : shifted (dividend (c .args .a) (c .args .over) (c .args .under))
+      ≡ blendOf (c .args .a) (c .args .over) (c .args .under)
+  divided = blendOf-shifted (c .args .a) (c .args .over) (c .args .under) (omega arith) (omega arith) (omega arith)
 
-mul-result-2 : tie.Need-mul-result-2
-mul-result-2 c = omega (arith, bound c)
+mul-t : tie.Need-mul-t
+mul-t c = omega (arith, bound c)
+
+sub-t : tie.Need-sub-t
+sub-t c = search needs
+
+mul-t-2 : tie.Need-mul-t-2
+mul-t-2 c = omega (arith, bound c)
+
+add-t : tie.Need-add-t
+add-t c = omega (arith, bound c)
+
+add-t-2 : tie.Need-add-t-2
+add-t-2 c = omega (arith, bound c)
 
 add-result : tie.Need-add-result
 add-result c = omega (arith, bound c)
 
 add-result-2 : tie.Need-add-result-2
-add-result-2 c = omega (arith, bound c)
-
-cast-result : tie.Need-cast-result
-cast-result c = omega (arith, bound c)
-
-mul-result-3 : tie.Need-mul-result-3
-mul-result-3 c = omega (arith, bound c)
-
-cast-result-2 : tie.Need-cast-result-2
-cast-result-2 c = omega (arith, bound c)
+add-result-2 c = omega (arith, narrow c)
 
 returns : tie.Need-returns
-unfolding blendOf
-returns c = omega (arith, bound c)
+returns c = omega (arith, narrow c, divided c)
 
 pub blended-spec : {M : Type 1} → statement M
-blended-spec =
-    tie.close
-    (tie.spec
-    mul-result
-    sub-result
-    mul-result-2
-    add-result
-    add-result-2
-    cast-result
-    mul-result-3
-    cast-result-2
-    returns)
+blended-spec = tie.close (tie.spec mul-t sub-t mul-t-2 add-t add-t-2 add-result add-result-2 returns)
