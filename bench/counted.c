@@ -1,12 +1,13 @@
 /* Paintings for an emulator that logs what is executed: the subjects at the smaller size, each step
- * of growth at a quarter of its width and height, text and frames by lines at the smaller size; and
- * a kept display's calls and loads, and mending. */
+ * of growth at a quarter of its width and height, text, float pictures and frames by lines at the
+ * smaller size; and a kept display's calls and loads, and mending. */
 #define _XOPEN_SOURCE 700
 #include <stdio.h>
 #include <stdlib.h>
 #include <string.h>
 #include <unistd.h>
 
+#include "floats.h"
 #include "growth.h"
 #include "kept.h"
 #include "lines.h"
@@ -55,7 +56,7 @@ static void paint_growth(const struct growth *growth)
     dprintf(STDOUT_FILENO, "growth\t%s: %s\n", growth->what, growth->sizes);
     for (int step = 0; step < growth->steps; step++) {
         struct scene *scene = growth->make(step, DIVISOR);
-        paint_marked(&SPOONWING, scene);
+        paint_marked(growth->painter, scene);
         drop_scene(scene);
     }
 }
@@ -67,6 +68,17 @@ static void paint_text(enum scale scale, const struct size *size)
     for (int i = 0; i < TEXT_RUNS; i++) {
         struct scene *scene = text_scene(&TEXT_RUN[i], scale, size);
         paint_marked(TEXT_RUN[i].painter, scene);
+        drop_scene(scene);
+    }
+}
+
+static void paint_floats(const struct float_look *look, const struct size *size)
+{
+    dprintf(STDOUT_FILENO, "floats\t%s, %u x %u\t%u\n", look->name, (unsigned)size->width,
+            (unsigned)size->height, (unsigned)(size->width * size->height));
+    for (int i = 0; i < FLOAT_RUNS; i++) {
+        struct scene *scene = float_scene(&FLOAT_RUN[i], look->look, size);
+        paint_marked(FLOAT_RUN[i].painter, scene);
         drop_scene(scene);
     }
 }
@@ -126,6 +138,8 @@ void paint_counted(void)
         paint_growth(&GROWTH[i]);
     for (int i = 0; i < SCALES; i++)
         paint_text(i, &SIZE[SIZES - 1]);
+    for (int i = 0; i < FLOAT_LOOKS; i++)
+        paint_floats(&FLOAT_LOOK[i], &SIZE[SIZES - 1]);
     for (int i = 0; i < SUBJECTS; i++)
         paint_lines(&SUBJECT[i], &SIZE[SIZES - 1]);
     for (int i = 0; i < WORKS; i++)

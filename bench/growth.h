@@ -2,12 +2,13 @@
 #ifndef GROWTH_H
 #define GROWTH_H
 
-#include "scene.h"
+#include "painter.h"
 
-enum { GROWTHS = 3, MOST_STEPS = 4 };
+enum { GROWTHS = 5, MOST_STEPS = 4 };
 
 struct growth {
     const char *what, *sizes;
+    const struct painter *painter;
     int steps;
     /* A step, on a screen of which each side is divided. */
     struct scene *(*make)(int step, uint32_t divisor);

@@ -56,7 +56,8 @@ static void paint_line(const struct scene *scene, struct panel *panel, uint32_t 
 {
     done(spoonwing_display_line(panel->state, sizeof panel->state, y, scene->tables,
                                 tables_length(scene), scene->pictures, scene->pictures_length,
-                                panel->line, line_length(scene)));
+                                scene->floats, scene->floats_length, panel->line,
+                                line_length(scene)));
 }
 
 static void paint_lines(const struct scene *scene, uint8_t *output, void *panel)
@@ -71,7 +72,7 @@ static void paint_frame(const struct scene *scene, uint8_t *output, void *prepar
     struct panel *panel = prepared;
     done(spoonwing_display_frame(panel->state, sizeof panel->state, scene->tables,
                                  tables_length(scene), scene->pictures, scene->pictures_length,
-                                 output, frame_length(scene)));
+                                 scene->floats, scene->floats_length, output, frame_length(scene)));
 }
 
 const struct painter BY_LINES = {
@@ -94,26 +95,31 @@ static void check_line(const struct scene *scene, struct panel *panel, uint32_t 
     exit(1);
 }
 
-/* spoonwing_frame's bytes are held to the formula elsewhere; here the frame and its lines are held
- * to them. */
-static void check_scene(const struct subject *subject, const struct size *size)
+void check_kept(const struct scene *scene, const uint8_t *wanted)
 {
-    struct scene *scene = subject->make(size->width, size->height);
-    uint8_t *wanted = room(frame_length(scene));
     struct run whole = new_run(&BY_FRAME, scene, room(frame_length(scene)));
-    SPOONWING.paint(scene, wanted, NULL);
     checked(&whole, wanted);
     for (uint32_t y = 0; y < scene->height; y++)
         check_line(scene, whole.prepared, y, wanted);
     drop_run(&whole);
     free(whole.output);
+}
+
+/* spoonwing_frame's bytes are held to the formula elsewhere; here the frame and its lines are held
+ * to them. */
+static void check_subject(const struct subject *subject, const struct size *size)
+{
+    struct scene *scene = subject->make(size->width, size->height);
+    uint8_t *wanted = room(frame_length(scene));
+    SPOONWING.paint(scene, wanted, NULL);
+    check_kept(scene, wanted);
     free(wanted);
     drop_scene(scene);
 }
 
 void check_lines(void)
 {
-    each_subject(check_scene);
+    each_subject(check_subject);
     printf("Every line of a kept display is that of its frame.\n\n");
 }
 

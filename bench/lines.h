@@ -8,4 +8,8 @@
  * spoonwing_display_frame. Both begin with the same state, the scene's image active. */
 extern const struct painter BY_LINES, BY_FRAME;
 
+/* Compares the frame and each line of it with a frame's bytes, and ends the program where they are
+ * others. */
+void check_kept(const struct scene *scene, const uint8_t *wanted);
+
 #endif

@@ -44,6 +44,7 @@ static void print_all(int is_timed)
 {
     print_bytes();
     check_text();
+    check_floats();
     check_lines();
     check_calls();
     check_mending();
@@ -52,6 +53,7 @@ static void print_all(int is_timed)
         print_ratios();
         print_growth();
         print_text();
+        print_floats();
         print_lines();
         print_calls();
         print_loads();

@@ -27,7 +27,7 @@ enum { WIDTH = 640, HEIGHT = 360 };
 /* In the order of the steps. All are at depth 0, where one may stay. */
 static const struct layer BROKEN_LAYER[LAYERS] = {
     {.is_graphics = 1, .x = 20, .y = 20, .width = 0, .height = 40},          /* switched off */
-    {.x = 20, .y = 20, .width = 641, .height = 40},                          /* switched off */
+    {.is_float = 1, .x = 20, .y = 20, .width = 641, .height = 40},           /* switched off */
     {.is_graphics = 1, .x = 1, .y = 20, .width = 641, .height = 40},         /* cut */
     {.is_graphics = 1, .x = 20, .y = 1, .width = 40, .height = 361},         /* cut */
     {.is_graphics = 1, .x = 4095, .y = 4095, .width = 4095, .height = 4095}, /* cut both ways */
@@ -48,11 +48,16 @@ static uint32_t reserved_bits(int i)
     return ~(i < FIRST_LAYER ? FIRST_BITS[i] : LAYER_BITS[(i - FIRST_LAYER) % LAYER_WORDS]);
 }
 
+/* With bit 2 of each layer that has bit 1. */
 static void set_reserved(uint8_t *image)
 {
     for (int i = 0; i < REGISTERS; i++) {
         uint8_t *word = image + 4 * i;
         put_word(word, word_at(word) | reserved_bits(i));
+    }
+    for (int n = 0; n < LAYERS; n++) {
+        uint8_t *word = image + 4 * layer_at(n);
+        put_word(word, word_at(word) | BROKEN_LAYER[n].is_graphics << 2);
     }
 }
 

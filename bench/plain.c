@@ -1,5 +1,5 @@
-/* Document 01's formula in plain C, pixel by pixel and layer by layer: what the others' bytes are
- * compared with. */
+/* Document 01's formula and K7's in plain C, pixel by pixel and layer by layer: what the others'
+ * bytes are compared with. */
 #include <stdlib.h>
 #include <string.h>
 
@@ -7,7 +7,7 @@
 #include "painter.h"
 #include "plain.h"
 
-enum { CHANNELS = 3 };
+enum { CHANNELS = 3, MOST_WIDTH = 4095 };
 
 static uint8_t blend(uint32_t a, uint32_t over, uint32_t under)
 {
@@ -51,6 +51,23 @@ static void flat_indexes(uint8_t *restrict under, const uint8_t *restrict indexe
         blend_pixel(under + PIXEL * i, colours + PIXEL * indexes[i], a);
 }
 
+/* ---- floats */
+
+/* A float has 24 bits, so 255 times it is exact in a double; so is that and a half, unless it is
+ * below 1 anyway. What is not a number is not above 0. */
+static uint8_t byte_of(float number)
+{
+    if (!(number > 0))
+        return 0;
+    return number >= 1 ? 255 : (uint8_t)(255.0 * number + 0.5);
+}
+
+static void convert_row(uint8_t *restrict bytes, const float *restrict numbers, size_t count)
+{
+    for (size_t i = 0; i < PIXEL * count; i++)
+        bytes[i] = byte_of(numbers[i]);
+}
+
 /* ---- layers */
 
 /* The lines of the layer that are on the canvas, counted from its first one. */
@@ -73,13 +90,24 @@ static uint8_t *row_of(const struct canvas *canvas, const struct layer *layer, u
     return canvas->output + PIXEL * ((size_t)y * canvas->width + layer->x);
 }
 
+/* A line of the picture, in the room where it has to be made of floats. */
+static const uint8_t *picture_row(const struct laid *laid, uint32_t v, uint8_t *bytes)
+{
+    size_t at = (size_t)PIXEL * v * laid->layer.width;
+    if (!laid->layer.is_float)
+        return laid->pixels + at;
+    convert_row(bytes, laid->floats + at, laid->layer.width);
+    return bytes;
+}
+
 static void lay_picture(const struct canvas *canvas, const struct laid *laid)
 {
     const struct layer *layer = &laid->layer;
     uint32_t end = lines_end(canvas, layer);
+    uint8_t bytes[PIXEL * MOST_WIDTH];
     for (uint32_t v = first_line(canvas, layer); v < end; v++) {
         uint8_t *under = row_of(canvas, layer, v);
-        const uint8_t *over = laid->pixels + (size_t)PIXEL * v * layer->width;
+        const uint8_t *over = picture_row(laid, v, bytes);
         if (layer->has_global_alpha)
             flat_row(under, over, layer->width, laid->alpha);
         else
@@ -128,8 +156,8 @@ static void paint(const struct scene *scene, uint8_t *output, void *indexes)
     struct canvas canvas = {output, scene->width, 0, scene->height, indexes};
     fill_canvas(&canvas, scene->ground);
     for (int n = 0; n < scene->layers; n++) {
-        struct laid laid = {scene->layer[n], scene->alpha[n], scene->pixels[n], bank_of(scene, n),
-                            scene->bits};
+        struct laid laid = {scene->layer[n],     scene->alpha[n],   scene->pixels[n],
+                            floats_of(scene, n), bank_of(scene, n), scene->bits};
         lay(&canvas, &laid);
     }
 }

@@ -11,11 +11,14 @@ struct canvas {
     uint8_t *indexes;
 };
 
-/* A layer with what is painted of it, a picture or a bank of so many bits a glyph pixel. */
+/* A layer with what is painted of it, a picture as bytes or as floats, or a bank of so many bits a
+ * glyph pixel. */
 struct laid {
     struct layer layer;
     uint8_t alpha;
-    const uint8_t *pixels, *bank;
+    const uint8_t *pixels;
+    const float *floats;
+    const uint8_t *bank;
     int bits;
 };
 

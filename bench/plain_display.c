@@ -1,4 +1,5 @@
-/* Written from document 01's "Registers", "Tables" and "Answers by number", and from K1 and K2. */
+/* Written from document 01's "Registers", "Tables" and "Answers by number", and from K1, K2 and
+ * K7. */
 #include <string.h>
 
 #include "plain_display.h"
@@ -52,6 +53,8 @@ static int has_reserved(const uint32_t *words)
         reserved |= words[i] & ~FIRST_BITS[i];
     for (int i = FIRST_LAYER; i < REGISTERS; i++)
         reserved |= words[i] & ~LAYER_BITS[(i - FIRST_LAYER) % LAYER_WORDS];
+    for (int n = 0; n < LAYERS; n++)
+        reserved |= (uint32_t)is_both(words + layer_at(n));
     return reserved != 0;
 }
 
@@ -195,17 +198,20 @@ static size_t pixel_bytes(uint32_t size)
     return (size_t)PIXEL * low_half(size) * high_half(size);
 }
 
-/* 6 or 14. */
+/* 6, 14 or 18. A pixel has as many floats as bytes. */
 static uint32_t lent_refusal(const struct plain_display *display, const struct lent *lent)
 {
-    size_t pictures = 0;
+    size_t pictures = 0, floats = 0;
     if (lent->tables_length != tables_asked(display))
         return SPOONWING_BAD_TABLES_LENGTH;
     for (int n = 0; n < LAYERS; n++) {
         const uint32_t *layer = display->active + layer_at(n);
-        pictures += is_enabled(layer) && !is_graphics(layer) ? pixel_bytes(layer[3]) : 0;
+        size_t length = is_enabled(layer) && !is_graphics(layer) ? pixel_bytes(layer[3]) : 0;
+        *(is_float(layer) ? &floats : &pictures) += length;
     }
-    return lent->pictures_length == pictures ? SPOONWING_DONE : SPOONWING_BAD_PICTURES_LENGTH;
+    if (lent->pictures_length != pictures)
+        return SPOONWING_BAD_PICTURES_LENGTH;
+    return lent->floats_length == floats ? SPOONWING_DONE : SPOONWING_BAD_FLOATS_LENGTH;
 }
 
 uint32_t plain_refusal(const struct plain_display *display, uint32_t low, uint32_t high,

@@ -20,7 +20,8 @@ uint32_t plain_put_run(struct plain_display *display, uint8_t *tables, size_t le
 /* What is lent to a painting to read, and room for a layer's indexes. */
 struct lent {
     const uint8_t *tables, *pictures;
-    size_t tables_length, pictures_length;
+    const float *floats;
+    size_t tables_length, pictures_length, floats_length;
     uint8_t *indexes;
 };
 

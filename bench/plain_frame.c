@@ -9,6 +9,7 @@ enum { DISPLAY_ON = 1 };
 static struct layer layer_of(const uint32_t *words)
 {
     return (struct layer){.is_graphics = (uint32_t)is_graphics(words),
+                          .is_float = (uint32_t)is_float(words),
                           .depth = depth_of(words),
                           .x = low_half(words[2]),
                           .y = high_half(words[2]),
@@ -37,16 +38,19 @@ static uint32_t find_layers(struct plain_display *display, const struct lent *le
     uint32_t depths = 0;
     int bits = display->profile ? 2 : 1;
     const uint8_t *pixels = lent->pictures;
+    const float *floats = lent->floats;
     for (uint32_t n = 0; n < LAYERS; n++) {
         const uint32_t *words = display->active + layer_at((int)n);
         if (!is_enabled(words))
             continue;
         struct layer layer = layer_of(words);
         size_t bank = 2 * n + (display->active[3] >> n & 1);
-        at[layer.depth] = (struct laid){layer, faded(&layer, display->frame), pixels,
+        at[layer.depth] = (struct laid){layer, faded(&layer, display->frame), pixels, floats,
                                         lent->tables + BANK_LENGTH(bits) * bank, bits};
         depths |= UINT32_C(1) << layer.depth;
-        if (!layer.is_graphics)
+        if (layer.is_float)
+            floats += (size_t)PIXEL * layer.width * layer.height;
+        else if (!layer.is_graphics)
             pixels += (size_t)PIXEL * layer.width * layer.height;
         else if (!has_end(at[layer.depth].bank))
             display->errors |= UINT32_C(1) << 4 * n;

@@ -1,11 +1,11 @@
-/* Written from document 01's "Registers" and from K4, step by step. */
+/* Written from document 01's "Registers" and from K4 and K7, step by step. */
 #include <string.h>
 
 #include "plain_mend.h"
 #include "plain_words.h"
 #include "spoonwing.h"
 
-enum { ENABLED = 1, DEPTH_AT = 8, Y_AT = 16, FIELD = 4095 };
+enum { ENABLED = 1, FLOAT = 4, DEPTH_AT = 8, Y_AT = 16, FIELD = 4095 };
 
 /* ---- the steps on single words and layers */
 
@@ -15,6 +15,9 @@ static void clear_reserved(uint32_t *words)
         words[i] &= FIRST_BITS[i];
     for (int i = FIRST_LAYER; i < REGISTERS; i++)
         words[i] &= LAYER_BITS[(i - FIRST_LAYER) % LAYER_WORDS];
+    for (int n = 0; n < LAYERS; n++)
+        if (is_both(words + layer_at(n)))
+            words[layer_at(n)] &= ~(uint32_t)FLOAT;
 }
 
 static int is_larger(uint32_t size, uint32_t screen)

@@ -46,7 +46,7 @@ static void paint_nothing(struct kept *kept)
     for (int i = 0; i < CALLS; i++)
         spoonwing_display_paint(kept->state, sizeof kept->state, 4, 4, scene->tables,
                                 tables_length(scene), scene->pictures, scene->pictures_length,
-                                kept->output, frame_length(scene));
+                                NULL, 0, kept->output, frame_length(scene));
 }
 
 static void paint_frame(struct kept *kept)
@@ -55,7 +55,7 @@ static void paint_frame(struct kept *kept)
     for (int i = 0; i < CALLS; i++)
         spoonwing_display_frame(kept->state, sizeof kept->state, scene->tables,
                                 tables_length(scene), scene->pictures, scene->pictures_length,
-                                kept->output, frame_length(scene));
+                                NULL, 0, kept->output, frame_length(scene));
 }
 
 static void paint_line(struct kept *kept)
@@ -66,7 +66,7 @@ static void paint_line(struct kept *kept)
         uint32_t y = i % scene->height;
         spoonwing_display_line(kept->state, sizeof kept->state, y, scene->tables,
                                tables_length(scene), scene->pictures, scene->pictures_length,
-                               kept->output + length * y, length);
+                               NULL, 0, kept->output + length * y, length);
     }
 }
 

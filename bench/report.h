@@ -5,13 +5,14 @@
 /* Compares each painter's bytes with the formula's, and ends the program where they are wrong. */
 void print_bytes(void);
 
-/* How deep spoonwing_frame and spoonwing_display_line reach into the stack. */
+/* How deep spoonwing_frame, spoonwing_display_frame and spoonwing_display_line reach into the
+ * stack. */
 void print_stack(void);
 
 /* spoonwing_frame's time as a part of each other painter's. */
 void print_ratios(void);
 
-/* What doubling the pixels, the layers or the instructions costs. */
+/* What doubling the pixels, the layers or the instructions costs, of float pictures too. */
 void print_growth(void);
 
 /* Compares text of one bit a glyph pixel and of two with the formula's, likewise. */
@@ -19,6 +20,12 @@ void check_text(void);
 
 /* The time of text of two bits as a multiple of that of one. */
 void print_text(void);
+
+/* Compares float pictures, whole and by lines, with the formula's of the same bytes, likewise. */
+void check_floats(void);
+
+/* The time of a float picture as a part of plain C's and as a multiple of the same in bytes. */
+void print_floats(void);
 
 /* Compares each line of a kept display with the frame's, likewise. */
 void check_lines(void);
@@ -42,9 +49,9 @@ void check_mending(void);
 void print_mending(void);
 
 /* Paints and calls for an emulator that logs what is executed. Among the log stand a line for each
- * row, its table, its name, for ratios its pixels, for text the most that is wanted, and for lines,
- * calls, loads and mending their number, with tabs between, and around each painting, each side's
- * calls or mendings and each way's loads of the row the lines "begin" and "end". */
+ * row, its table, its name, for ratios and floats its pixels, for text the most that is wanted, and
+ * for lines, calls, loads and mending their number, with tabs between, and around each painting,
+ * each side's calls or mendings and each way's loads of the row the lines "begin" and "end". */
 void paint_counted(void);
 
 /* A cell with a number and, where one is wanted, the most that it may be. */

@@ -33,6 +33,14 @@ const uint8_t *bank_of(const struct scene *scene, int layer)
     return scene->tables + CONTROLLER_LENGTH(scene->bits) * layer;
 }
 
+/* A pixel has as many floats as bytes. */
+const float *floats_of(const struct scene *scene, int layer)
+{
+    if (!scene->layer[layer].is_float)
+        return NULL;
+    return scene->floats + (scene->pixels[layer] - scene->pictures);
+}
+
 /* ---- pictures */
 
 /* Marsaglia's steps of three shifts. */
@@ -48,8 +56,8 @@ static void make_picture(uint8_t *pixels, size_t length, uint32_t seed, enum loo
 {
     for (size_t i = 0; i < length; i += PIXEL) {
         put_word(pixels + i, next_random(&seed));
-        if (look == OPAQUE)
-            pixels[i + PIXEL - 1] = 255;
+        if (look == OPAQUE || look == CLEAR)
+            pixels[i + PIXEL - 1] = look == OPAQUE ? 255 : 0;
     }
 }
 
@@ -67,6 +75,27 @@ struct scene *new_scene(uint32_t width, uint32_t height, int pictures, enum look
         scene->pixels[n] = scene->pictures + length * (size_t)n;
         make_picture(scene->pixels[n], length, (uint32_t)n + 1, look);
     }
+    return scene;
+}
+
+/* A number of those that become the byte: less than half a step above or below it. */
+static float near_byte(uint8_t byte, uint32_t random)
+{
+    int is_end = byte == 0 || byte == 255;
+    float part = is_end ? 0 : (float)(random % 999) / 1000 - 0.499f;
+    return ((float)byte + part) / 255;
+}
+
+struct scene *in_floats(struct scene *scene)
+{
+    uint32_t seed = 1;
+    scene->floats_length = scene->pictures_length;
+    scene->floats = room(scene->floats_length * sizeof scene->floats[0]);
+    scene->pictures_length = 0;
+    for (size_t i = 0; i < scene->floats_length; i++)
+        scene->floats[i] = near_byte(scene->pictures[i], next_random(&seed));
+    for (int n = 0; n < scene->layers; n++)
+        scene->layer[n].is_float = 1;
     return scene;
 }
 
@@ -126,5 +155,6 @@ void drop_scene(struct scene *scene)
         if (scene->layer[n].is_graphics)
             free(scene->pixels[n]);
     free(scene->pictures);
+    free(scene->floats);
     free(scene);
 }

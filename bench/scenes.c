@@ -32,6 +32,11 @@ struct scene *eight_layers(uint32_t width, uint32_t height)
     return stack_of(width, height, MOST_LAYERS);
 }
 
+struct scene *float_stack_of(uint32_t width, uint32_t height, int pictures)
+{
+    return sealed(in_floats(new_scene(width, height, pictures, RANDOM_ALPHA)));
+}
+
 /* ---- the museum */
 
 /* How many pixels wide one of 640 by 360 is, and the scale of a text that has scale 1 there. */

@@ -16,6 +16,9 @@ struct scene *museum(uint32_t width, uint32_t height);
 struct scene *stack_of(uint32_t width, uint32_t height, int pictures);
 struct scene *eight_layers(uint32_t width, uint32_t height);
 
+/* The same as floats, for kept displays. */
+struct scene *float_stack_of(uint32_t width, uint32_t height, int pictures);
+
 /* A graphics layer over the whole screen with so many instructions, each of which draws: boxes,
  * outlines, text, and boxes with text, at every scale. */
 struct scene *list_of(uint32_t width, uint32_t height, int instructions);

@@ -6,6 +6,7 @@
 #include <string.h>
 #include <ucontext.h>
 
+#include "floats.h"
 #include "lines.h"
 #include "report.h"
 #include "run.h"
@@ -57,7 +58,7 @@ static size_t deeper(size_t most, const struct painter *painter, struct scene *s
     return used > most ? used : most;
 }
 
-/* How deep a painter reaches at the most, as a cell. */
+/* How deep a painter reaches at the most, as a cell. spoonwing_frame takes no floats. */
 static void print_deepest(const struct painter *painter, double wanted)
 {
     uint8_t *stack = room(STACK_LENGTH);
@@ -65,6 +66,9 @@ static void print_deepest(const struct painter *painter, double wanted)
     for (int i = 0; i < SUBJECTS; i++)
         most = deeper(most, painter, SUBJECT[i].make(SIZE[0].width, SIZE[0].height), stack);
     most = deeper(most, painter, text_scene(&TEXT_RUN[TWO_BITS], SCALE_1, &SIZE[0]), stack);
+    for (int i = 0; i < FLOAT_LOOKS && painter != &SPOONWING; i++)
+        most = deeper(most, painter, float_scene(&FLOAT_RUN[FLOATS], FLOAT_LOOK[i].look, &SIZE[0]),
+                      stack);
     free(stack);
     print_cell((double)most / 1024, wanted);
 }
@@ -72,8 +76,10 @@ static void print_deepest(const struct painter *painter, double wanted)
 void print_stack(void)
 {
     printf("Stack in KiB that the deepest painting takes; in brackets the most that is wanted.\n\n"
-           "| spoonwing_frame | spoonwing_display_line |\n|---|---|\n|");
+           "| spoonwing_frame | spoonwing_display_frame | spoonwing_display_line |\n"
+           "|---|---|---|\n|");
     print_deepest(&SPOONWING, FRAME_WANTED);
+    print_deepest(&BY_FRAME, FRAME_WANTED);
     print_deepest(&BY_LINES, LINE_WANTED);
     printf("\n\n");
 }

@@ -91,7 +91,7 @@ static void write_registers(void)
 static void paint(uint32_t low, uint32_t high)
 {
     done(spoonwing_display_paint(state, sizeof state, low, high, tables, sizeof tables, pictures,
-                                 sizeof pictures, output, sizeof output));
+                                 sizeof pictures, NULL, 0, output, sizeof output));
 }
 
 static int write_inputs(const char *folder)

@@ -109,7 +109,7 @@ static int write_inputs(const char *folder)
 static int send_line(const char *folder, uint32_t y)
 {
     done(spoonwing_display_line(state, sizeof state, y, tables, sizeof tables, pictures,
-                                sizeof pictures, line, sizeof line));
+                                sizeof pictures, NULL, 0, line, sizeof line));
     if (folder && !(y == 0 ? write_file : add_to_file)(folder, "output.bin", line, sizeof line))
         return 0;
     return write_pixels(line, WIDTH);

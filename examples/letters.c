@@ -118,7 +118,7 @@ static void paint(struct display *display)
     write_registers(display);
     done(spoonwing_display_start(display->state, sizeof display->state));
     done(spoonwing_display_frame(display->state, sizeof display->state, display->tables,
-                                 display->tables_length, NULL, 0, display->output,
+                                 display->tables_length, NULL, 0, NULL, 0, display->output,
                                  sizeof display->output));
 }
 

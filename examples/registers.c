@@ -17,7 +17,7 @@ void put_screen(uint8_t *image, uint32_t width, uint32_t height, const uint8_t g
 void put_layer(uint8_t *image, int n, const struct layer *layer)
 {
     uint8_t *words = image + WORD_LENGTH * (FIRST_LAYER + LAYER_WORDS * n);
-    put_word(words, 1 | layer->is_graphics << 1 | layer->depth << 8);
+    put_word(words, 1 | layer->is_graphics << 1 | layer->is_float << 2 | layer->depth << 8);
     put_word(words + 4, layer->has_global_alpha << 31 | layer->alpha);
     put_word(words + 8, layer->y << 16 | layer->x);
     put_word(words + 12, layer->height << 16 | layer->width);

@@ -5,7 +5,7 @@
 #include <stdint.h>
 
 struct layer {
-    uint32_t is_graphics, depth;
+    uint32_t is_graphics, is_float, depth; /* neither: its picture comes as bytes */
     uint32_t x, y, width, height;
     uint32_t has_global_alpha, alpha;
     uint32_t fade_start, fade_length, fade_target;

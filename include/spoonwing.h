@@ -14,10 +14,12 @@
  * library.
  *
  * What holds for every call
- *   Buffers   Each pointer is followed by its length in bytes and must point to that many. Where
- *             the length is 0 nothing is read or written through it, and it may be NULL. No buffer
- *             has to be aligned. Only three have no length; they are aligned and never NULL: `done`
- *             of a run and `count`, a size_t each, and `list`, 156 uint32_t.
+ *   Buffers   Each pointer is followed by its length in bytes and must point to that many; but the
+ *             length of `floats` counts numbers, each a float of 32 bits, and they are aligned as a
+ *             float is. No other buffer has to be aligned. Where a length is 0 nothing is read or
+ *             written through its pointer, which may be NULL. Only three have no length; they are
+ *             aligned and never NULL: `done` of a run and `count`, a size_t each, and `list`, 156
+ *             uint32_t.
  *   Overlap   A buffer that a call may write must not overlap any other of that call. Those that
  *             it only reads (const) may overlap each other.
  *   Threads   Nothing is kept but what the buffers hold. Calls on several threads are safe while
@@ -57,9 +59,9 @@ extern "C" {
  *   display_put         23, 6, 3, 4, 5
  *   display_put_run     23, 6, 3, 4, 5
  *   display_fill        23, 12, 13
- *   display_paint       23, 15, 12, 13, 6, 14
- *   display_frame       23, 12, 13, 6, 14
- *   display_line        23, 12, 15, 13, 6, 14
+ *   display_paint       23, 15, 12, 13, 6, 14, 18
+ *   display_frame       23, 12, 13, 6, 14, 18
+ *   display_line        23, 12, 15, 13, 6, 14, 18
  *
  * 9 and 10 are asked of each enabled layer in turn, from layer 0 to layer 7, before 11. Disabled
  * layers are looked at for 7 only. 15 has two names, one for a band and one for a line. */
@@ -71,7 +73,7 @@ enum spoonwing_answer {
     SPOONWING_BANK_ACTIVE = 4,           /* the selected bank is an active one */
     SPOONWING_BANK_FULL = 5,             /* the selected table is full */
     SPOONWING_BAD_TABLES_LENGTH = 6,     /* the tables are not 29,696 bytes, for two bits 41,984 */
-    SPOONWING_RESERVED_BIT = 7,          /* a reserved bit is set in a word */
+    SPOONWING_RESERVED_BIT = 7,          /* a reserved bit is set, or bits 1 and 2 of a layer */
     SPOONWING_EMPTY_SCREEN = 8,          /* the output has no width or no height */
     SPOONWING_EMPTY_LAYER = 9,           /* an enabled layer has no width or no height */
     SPOONWING_OFF_SCREEN = 10,           /* an enabled layer does not lie on the screen */
@@ -83,6 +85,7 @@ enum spoonwing_answer {
     SPOONWING_NO_LINE = 15,              /* the line is at or past the height */
     SPOONWING_BAD_IMAGE_LENGTH = 16,     /* the register image is not 208 bytes */
     SPOONWING_BAD_GLYPH_BITS = 17,       /* a glyph pixel has neither 1 nor 2 bits */
+    SPOONWING_BAD_FLOATS_LENGTH = 18,    /* the floats have the wrong total length */
     SPOONWING_BAD_STATE_LENGTH = 23      /* the state is not 440 bytes */
 };
 
@@ -98,7 +101,8 @@ static inline const char *spoonwing_refusal(uint32_t answer)
     case SPOONWING_BANK_FULL: return "the table is full: put no more, or select it anew";
     case SPOONWING_BAD_TABLES_LENGTH: return "wrong tables: lend 29,696 bytes, for two bits 41,984";
     case SPOONWING_RESERVED_BIT:
-        return "a reserved bit is set: clear all bits without a meaning, or mend the image";
+        return "a reserved bit is set: clear all bits without a meaning, or mend the image; bit 2 "
+               "of a layer has none beside bit 1, and none for spoonwing_frame";
     case SPOONWING_EMPTY_SCREEN: return "the screen is empty: give register 1 a width and a height";
     case SPOONWING_EMPTY_LAYER:
         return "a layer is empty: give it a size, disable it, or mend the image";
@@ -109,11 +113,14 @@ static inline const char *spoonwing_refusal(uint32_t answer)
     case SPOONWING_NO_SIZE: return "the screen has no size yet: start with the update bit set";
     case SPOONWING_BAD_OUTPUT_LENGTH:
         return "wrong output: lend 4 * width * height bytes, for a line 4 * width";
-    case SPOONWING_BAD_PICTURES_LENGTH: return "wrong pictures: lend all enabled frame layers'";
+    case SPOONWING_BAD_PICTURES_LENGTH:
+        return "wrong pictures: lend all enabled frame layers' but no float layer's";
     case SPOONWING_NO_BAND: /* and SPOONWING_NO_LINE */
         return "no such band or line: paint with low <= high <= 8, or a line below the height";
     case SPOONWING_BAD_IMAGE_LENGTH: return "wrong register image: lend 208 bytes";
     case SPOONWING_BAD_GLYPH_BITS: return "wrong bits a glyph pixel: make the state with 1 or 2";
+    case SPOONWING_BAD_FLOATS_LENGTH:
+        return "wrong floats: lend all enabled float layers' and count numbers, four a pixel";
     case SPOONWING_BAD_STATE_LENGTH: return "wrong state: lend 440 bytes";
     default: return "unknown: no call answers this number";
     }
@@ -152,7 +159,8 @@ static inline const char *spoonwing_refusal(uint32_t answer)
  *
  * image     208 bytes: 52 register words, each little-endian. It counts as active once it passes
  *           the check of a start, whether its update bit is set or not. With the display bit clear
- *           the frame is background.
+ *           the frame is background. Float pictures are for kept displays: bit 2 of a layer's first
+ *           word is refused with 7 here, in disabled layers too.
  * frame     the frame number that fades go by, used as given.
  * tables    29,696 bytes, or 41,984: the length says how many bits a glyph pixel has.
  * pictures  the pictures of the enabled frame layers in rising layer number, each
@@ -181,9 +189,10 @@ uint32_t spoonwing_frame(const uint8_t *image, size_t image_length,
  *
  * In this order, each step on what the one before it left:
  *
- *   1  reserved bits are cleared;
+ *   1  reserved bits are cleared, and bit 2 of a layer whose bit 1 is set too;
  *   2  enabled layers of no width or no height are switched off: bit 0 goes, all else is kept;
- *   3  so are enabled frame layers wider or higher than the screen, since a picture is not cut;
+ *   3  so are enabled frame layers wider or higher than the screen, those with float pictures too,
+ *      since a picture is not cut;
  *   4  along each axis an enabled layer larger than the screen is put at 0 and cut to the screen,
  *      and one that sticks out is moved to the left or up, just far enough;
  *   5  in layer order, an enabled layer whose depth a lower-numbered enabled layer holds gets the
@@ -197,21 +206,40 @@ uint32_t spoonwing_frame(const uint8_t *image, size_t image_length,
  *         printf("register %u had %08X and has %08X\n", at[0], at[1], at[2]);
  *
  * Each old value put back in its register gives the image as it came. Pictures go by the mended
- * image: that of a layer which was switched off is lent no more. The first 208 bytes of a state are
- * its pending registers, so they can be mended where they stand when a start has refused them. */
+ * image: that of a layer which was switched off is lent no more. A float layer stays one, which
+ * spoonwing_frame goes on to refuse. The first 208 bytes of a state are its pending registers, so
+ * they can be mended where they stand when a start has refused them. */
 uint32_t spoonwing_mend(uint8_t *image, size_t image_length, uint32_t *list, size_t *count);
 
 /* ---- keeping a display
  *
  * A display is a state of 440 bytes that the host owns and lends to each call, beside its tables. A
  * state is made for one bit a glyph pixel or for two, and takes tables of that length alone.
- * examples/caption.c is a host that keeps one display, examples/letters.c keeps two, and
- * examples/hall.c has no buffer for the frame and paints it line by line.
+ * examples/caption.c is a host that keeps one display, examples/letters.c keeps two,
+ * examples/hall.c has no buffer for the frame and paints it line by line, and examples/flow.c lends
+ * a river of floats, another one for each frame.
  *
  * Registers are written at any time and wait as pending ones; a start whose pending update bit is
  * set makes them the active ones, all at once, and painting goes by those. Tables have two banks of
  * each kind. Painting reads the active ones and puts go to the others; register 3 says which are
  * active, so a start also turns banks over.
+ *
+ * The picture of a frame layer, which is a layer without a list, comes as bytes or, as a shader
+ * leaves it, as floats. Each call that paints layers is lent two buffers:
+ *
+ *   pictures  those of the enabled frame layers without bit 2 in their first word, each
+ *             4 * width * height bytes in raster order.
+ *   floats    those of the enabled float layers, the frame layers with bit 2, each
+ *             4 * width * height numbers in raster order: of a pixel red, green, blue and alpha,
+ *             which are channel 0, 1, 2 and alpha.
+ *
+ * In either buffer they stand in rising layer number, without gaps, and all of them, whatever their
+ * alphas and also while the display is off. A number is painted as the byte that it becomes:
+ *
+ *   not a number, or at most 0    0
+ *   at least 1                    255
+ *   any other                     the whole number nearest to 255 times its exact value, halves
+ *                                 upward: 0.5 becomes 128
  *
  * A state of another length than 440 answers 23, and everything is unchanged. Other refusals leave
  * every buffer and every part of the state as it was, but for these: a refused start has stepped
@@ -238,7 +266,8 @@ uint32_t spoonwing_display_new(uint8_t *state, size_t state_length, uint32_t bit
  *   2       background: channel 0 7:0, channel 1 15:8, channel 2 23:16
  *   3       active banks, a bit for each controller: instructions 7:0, colours 15:8, strings 23:16,
  *           font 31:24
- *   4 + 6n  layer n: bit 0 enabled, bit 1 graphics, depth 10:8
+ *   4 + 6n  layer n: bit 0 enabled, bit 1 graphics, bit 2 float picture, depth 10:8; bits 1 and 2
+ *           together are refused with 7, in disabled layers too
  *   5 + 6n  bit 31 global alpha, its value 7:0
  *   6 + 6n  x 11:0, y 27:16
  *   7 + 6n  width 11:0, height 27:16
@@ -281,25 +310,27 @@ uint32_t spoonwing_display_fill(uint8_t *state, size_t state_length,
 
 /* Blends the enabled layers whose depth is at least `low` and below `high`, in rising depth, over
  * what the output holds; its alpha bytes stay. Tables are of the length that the state's bits ask
- * for. Pictures are those of spoonwing_frame, of all enabled frame layers whatever the band. A
- * graphics layer n of the band whose list has no END sets error bit 4n. With the display off a band
- * changes nothing. */
+ * for. Pictures and floats are those of all enabled layers, whatever the band. A graphics layer n
+ * of the band whose list has no END sets error bit 4n. With the display off a band changes
+ * nothing. */
 uint32_t spoonwing_display_paint(uint8_t *state, size_t state_length,
                                  uint32_t low, uint32_t high,
                                  const uint8_t *tables, size_t tables_length,
                                  const uint8_t *pictures, size_t pictures_length,
+                                 const float *floats, size_t floats_length,
                                  uint8_t *output, size_t output_length);
 
 /* A fill and the band from 0 to 8, or nothing of either where it is refused. */
 uint32_t spoonwing_display_frame(uint8_t *state, size_t state_length,
                                  const uint8_t *tables, size_t tables_length,
                                  const uint8_t *pictures, size_t pictures_length,
+                                 const float *floats, size_t floats_length,
                                  uint8_t *output, size_t output_length);
 
 /* Paints one line of the whole frame, for a host that has no room for all of it.
  *
  * y         the line, 0 being the uppermost. At or past the height it is refused with 15.
- * tables    and pictures: those of the whole frame, whichever line it is.
+ * tables    and likewise pictures and floats: those of the whole frame, whichever line it is.
  * output    4 * width bytes, the line alone. What it held does not count. The alpha bytes become
  *           255.
  *
@@ -310,6 +341,7 @@ uint32_t spoonwing_display_frame(uint8_t *state, size_t state_length,
 uint32_t spoonwing_display_line(uint8_t *state, size_t state_length, uint32_t y,
                                 const uint8_t *tables, size_t tables_length,
                                 const uint8_t *pictures, size_t pictures_length,
+                                const float *floats, size_t floats_length,
                                 uint8_t *output, size_t output_length);
 
 /* Turns the error word's bits over where `bits` has a 1: a set one is cleared and a clear one is
@@ -337,12 +369,15 @@ uint32_t spoonwing_display_output_height(const uint8_t *state, size_t state_leng
  *   424   0 where nothing is selected; else something is
  *   428   selection
  *   432   place
- *   436   bit 0 set: two bits a glyph pixel, clear: one; its other bits count for nothing
+ *   436   bit 0 set: two bits a glyph pixel, clear: one
+ *         bit 1 set: float layers are not let in, a start answers 7 for them, clear: they are;
+ *         spoonwing_display_new clears it. The other bits count for nothing
  *
  * Any 440 bytes stand for some state, and every call is safe on them, also where no call would have
- * made them: a layer is painted where it lies on the screen, and of layers of one depth the one of
- * greater number lies on top. A call writes 0 or 1 at 424 and at 436, also when it is refused or
- * its run is empty. */
+ * made them: a layer is painted where it lies on the screen, of layers of one depth the one of
+ * greater number lies on top, and a layer with bits 1 and 2 is a graphics layer and has no picture
+ * in either buffer. A call writes 0 or 1 at 424 and 0 to 3 at 436, also when it is refused or its
+ * run is empty. */
 
 #ifdef __cplusplus
 }

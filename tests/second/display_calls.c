@@ -1,8 +1,8 @@
 /* A C program that makes the calls of a display that it reads, one row after another. A step comes
- * as sixteen numbers of 32 bits, little-endian: what is done, two numbers for it, whether a buffer
- * of no bytes is passed as NULL, and for state, tables, pictures, output, run and the place of a
- * run's count how many bytes are lent, and then how far past a multiple of 16 each begins, the
- * count's place by 0 or 8.
+ * as eighteen numbers of 32 bits, little-endian: what is done, two numbers for it, whether a buffer
+ * of no bytes is passed as NULL, and for state, tables, pictures, floats, output, run and the place
+ * of a run's count how many bytes are lent, and then how far past a multiple of 16 each begins, the
+ * floats by a multiple of 4 and the count's place by 0 or 8. Of floats whole ones are lent.
  *
  * A call tells its answer, 1 or 0 for whether a byte beside a buffer or of an input was touched,
  * the state's bytes, how many bytes of the tables are others now with the place and the byte of
@@ -17,8 +17,8 @@
 #include "numbers.h"
 #include "spoonwing.h"
 
-enum { ROOM = 1 << 17 };
-enum { STATE, TABLES, PICTURES, OUTPUT, RUN, COUNT, BUFFERS };
+enum { ROOM = 1 << 18 };
+enum { STATE, TABLES, PICTURES, FLOATS, OUTPUT, RUN, COUNT, BUFFERS };
 enum { DOOR, FIRST, SECOND, NULL_IF_EMPTY, LENGTHS, PAST = LENGTHS + BUFFERS,
        NUMBERS = PAST + BUFFERS };
 
@@ -51,7 +51,7 @@ static void store(uint32_t buffer, uint32_t length)
 static struct lent lend(int buffer, const uint32_t *numbers)
 {
     size_t length = numbers[LENGTHS + buffer];
-    if (length > ROOM)
+    if (length > ROOM || (buffer == FLOATS && length % sizeof(float) != 0))
         exit(2);
     struct lent lent = between_guards(space[buffer], length, numbers[PAST + buffer]);
     memcpy(lent.bytes, owned[buffer], length);
@@ -61,7 +61,7 @@ static struct lent lend(int buffer, const uint32_t *numbers)
 /* Whether a call only reads a buffer. */
 static int is_input(uint32_t door, int buffer)
 {
-    return buffer == PICTURES || buffer == RUN ||
+    return buffer == PICTURES || buffer == FLOATS || buffer == RUN ||
            (buffer == TABLES && door != PUT && door != PUT_RUN) ||
            (buffer == STATE && door >= ERROR_WORD);
 }
@@ -79,6 +79,8 @@ static uint32_t call(const uint32_t *n, const struct lent *lent, uint8_t *const 
     uint8_t *state = at[STATE], *tables = at[TABLES], *pictures = at[PICTURES], *out = at[OUTPUT];
     size_t length = lent[STATE].length, tables_length = lent[TABLES].length;
     size_t pictures_length = lent[PICTURES].length, out_length = lent[OUTPUT].length;
+    const float *floats = (const float *)at[FLOATS];
+    size_t floats_length = lent[FLOATS].length / sizeof(float);
     size_t run_length = lent[RUN].length, *done = (size_t *)at[COUNT];
     switch (n[DOOR]) {
     case NEW: return spoonwing_display_new(state, length, n[FIRST]);
@@ -91,13 +93,14 @@ static uint32_t call(const uint32_t *n, const struct lent *lent, uint8_t *const 
     case FILL: return spoonwing_display_fill(state, length, out, out_length);
     case PAINT:
         return spoonwing_display_paint(state, length, n[FIRST], n[SECOND], tables, tables_length,
-                                       pictures, pictures_length, out, out_length);
+                                       pictures, pictures_length, floats, floats_length, out,
+                                       out_length);
     case FRAME:
         return spoonwing_display_frame(state, length, tables, tables_length, pictures,
-                                       pictures_length, out, out_length);
+                                       pictures_length, floats, floats_length, out, out_length);
     case LINE:
         return spoonwing_display_line(state, length, n[FIRST], tables, tables_length, pictures,
-                                      pictures_length, out, out_length);
+                                      pictures_length, floats, floats_length, out, out_length);
     case PUT_RUN:
         return spoonwing_display_put_run(state, length, tables, tables_length, at[RUN], run_length,
                                          done);

@@ -77,6 +77,10 @@ imageLength = 16
 abbrev pub glyphBits : ℕ
 glyphBits = 17
 
+-- 02 K7: "18 for a float buffer of the wrong total length"
+abbrev pub floatsLength : ℕ
+floatsLength = 18
+
 -- 23, past the numbers of 01 and 02: a door's lent state not 440 bytes
 abbrev pub stateLength : ℕ
 stateLength = 23

@@ -60,6 +60,9 @@ pub const IMAGE_LENGTH: u8 = 16;
 // Making a state: the bits a glyph pixel are neither 1 nor 2.
 pub const GLYPH_BITS: u8 = 17;
 
+// Paint, line: the floats have the wrong total length.
+pub const FLOATS_LENGTH: u8 = 18;
+
 // Doors: the lent state is not 440 bytes. A number of our own, past those of 02.
 pub const STATE_LENGTH: u8 = 23;
 

@@ -2,17 +2,18 @@
 -- Assumes nothing.
 use Prim.Native.Nat.{ℕ}
 use mathlib.Core.Path.{refl}
+use mathlib.Core.Bool.{Bool}
 use mathlib.Core.List.{List}
+use lib.Ieee.{Float}
 use lib.Dec.{ltb, eqb}
 use Rattle.lists.proofs.Choice.{choose-keeps}
 use Rattle.answers.specs.Answers.{done, bankFull}
 use Rattle.profiles.specs.declared.Profile.{Profile}
 use Rattle.words.specs.Fields.{updateOf}
-use Rattle.words.specs.Check.{checkOf}
 use Rattle.order.proofs.LayoutLaws.{layout-none}
 use Rattle.display.specs.declared.Display.{Display}
 use Rattle.display.specs.declared.Told.{Told}
-use Rattle.display.specs.State.{fresh, newOf, writeOf, selectOf, toggleOf, startOf}
+use Rattle.display.specs.State.{fresh, newOf, writeOf, selectOf, toggleOf, checkIn, startOf}
 use Rattle.display.specs.Put.{putAnswer, putState, putOf}
 use Rattle.display.specs.Runs.{putRunOf, writeRunOf}
 use Rattle.display.specs.Paint.{fillTold, paintTold, frameTold, lineTold}
@@ -26,8 +27,8 @@ ArrangedTold t = Arranged (t .state)
 pub fresh-arranged : (p : Profile) → Arranged (fresh p)
 fresh-arranged p = layout-none
 
-pub new-arranged : (bits : ℕ) → Arranged (newOf bits .state)
-new-arranged bits =
+pub new-arranged : (bits : ℕ) (floats : Bool) → Arranged (newOf bits floats .state)
+new-arranged bits floats =
     choose-keeps ArrangedTold (eqb bits 1) _ _ (λ _. layout-none)
     (λ _. choose-keeps ArrangedTold (eqb bits 2) _ _ (λ _. layout-none) (λ _. layout-none))
 
@@ -57,24 +58,26 @@ module _ (d : Display) (a : Arranged d) where
   unfolding fillTold
   fill-arranged out = a
 
-  pub paint-arranged : (low high : ℕ) (tables pictures out : List ℕ)
-      → Arranged (paintTold d low high tables pictures out .state)
+  pub paint-arranged : (low high : ℕ) (tables pictures : List ℕ) (floats : List Float) (out : List ℕ)
+      → Arranged (paintTold d low high tables pictures floats out .state)
   unfolding paintTold
-  paint-arranged low high tables pictures out = a
+  paint-arranged low high tables pictures floats out = a
 
-  pub frame-arranged : (tables pictures out : List ℕ) → Arranged (frameTold d tables pictures out .state)
+  pub frame-arranged : (tables pictures : List ℕ) (floats : List Float) (out : List ℕ)
+      → Arranged (frameTold d tables pictures floats out .state)
   unfolding frameTold
-  frame-arranged tables pictures out = paint-arranged 0 8 tables pictures out
+  frame-arranged tables pictures floats out = paint-arranged 0 8 tables pictures floats out
 
-  pub line-arranged : (y : ℕ) (tables pictures out : List ℕ) → Arranged (lineTold d y tables pictures out .state)
+  pub line-arranged : (y : ℕ) (tables pictures : List ℕ) (floats : List Float) (out : List ℕ)
+      → Arranged (lineTold d y tables pictures floats out .state)
   unfolding lineTold
-  line-arranged y tables pictures out = a
+  line-arranged y tables pictures floats out = a
 
   -- the words that a start copies bring theirs; else nothing of it changes
   pub start-arranged : Arranged (startOf d .state)
   start-arranged =
       choose-keeps ArrangedTold (updateOf (d .pending)) _ _
-      (λ _. choose-keeps ArrangedTold (eqb (checkOf (d .pending)) done) _ _ (λ _. refl) (λ _. a)) (λ _. a)
+      (λ _. choose-keeps ArrangedTold (eqb (checkIn d) done) _ _ (λ _. refl) (λ _. a)) (λ _. a)
 
 -- so it is of every state that comes to be
 pub reached-arranged : {d : Display} → Reached d → Arranged d

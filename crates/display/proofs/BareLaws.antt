@@ -10,14 +10,13 @@ use lib.ListN.{set}
 use Rattle.lists.specs.Choice.{choose}
 use Rattle.answers.specs.Answers.{done, noRegister, noSelection, bankFull}
 use Rattle.words.specs.Fields.{updateOf}
-use Rattle.words.specs.Check.{checkOf}
 use Rattle.order.specs.declared.Layout.{Layout}
 use Rattle.tables.specs.Selection.{controllerOf}
 use Rattle.display.specs.declared.Display.{Display}
 use Rattle.display.specs.declared.Told.{Told}
 use Rattle.display.specs.declared.Ran.{Ran}
 use Rattle.display.specs.State.{told, withPending, withActive, withErrors, withPlace, freshSelection}
-use Rattle.display.specs.State.{stepped, writeOf, selectOf, toggleOf, startOf}
+use Rattle.display.specs.State.{stepped, writeOf, selectOf, toggleOf, checkIn, startOf}
 use Rattle.display.specs.Put.{putAnswer, putState, putOf, putTables}
 use Rattle.display.specs.Runs.{toldBy, putRunOf, putRunTables, writeRunOf}
 use Rattle.display.specs.Paint.{fillTold, fillBytes}
@@ -70,8 +69,8 @@ pub start-blind : Blind (λ d. told (withLayout (startOf d .state) (d .layout)) 
 start-blind =
     record {
       alike = λ d l. let s : Alike (startOf (withLayout d l)) (startOf d) = alike-choose (updateOf (d .pending))
-          (alike-choose (eqb (checkOf (d .pending)) done) (same (told (withActive (stepped d) (d .pending)) done))
-          (left-out (stepped d) l (checkOf (d .pending))))
+          (alike-choose (eqb (checkIn d) done) (same (told (withActive (stepped d) (d .pending)) done))
+          (left-out (stepped d) l (checkIn d)))
           (left-out (stepped d) l done) in
           record { answer = s .answer; state = bytes-bare (startOf (withLayout d l) .state) l ∙ s .state };
     }

@@ -2,7 +2,7 @@
 use mathlib.Core.Path.{_≡_, refl, sym, ap, _∙_}
 use mathlib.Core.Bool.{Bool}
 use mathlib.Core.List.{List, [], _∷_, _++_}
-use Prim.Native.Nat.{ℕ, _+_, _*_, _%_, _<_}
+use Prim.Native.Nat.{ℕ, _+_, _*_, _/_, _%_, _≤_, _<_}
 use native.Mathlib.Omega.{arith}
 use borrow.Rule.Slice.PartMut.{putMid}
 use borrow.Author.Tests.{eq-eqb, ne-eqb}
@@ -13,6 +13,7 @@ use Rattle.lists.specs.Choice.{pick}
 use Rattle.lists.specs.Little.{littleAt}
 use Rattle.lists.specs.Bytes.{littleBytes}
 use Rattle.lists.specs.Tab.{tab}
+use Rattle.lists.proofs.Choice.{pick-keeps}
 use Rattle.lists.proofs.Upto.{upto-none}
 use Rattle.lists.proofs.Little.{words-turn, words-bytes}
 use Rattle.answers.specs.Answers.{stateLength}
@@ -24,7 +25,7 @@ use Rattle.display.specs.declared.Display.{Display}
 use Rattle.display.specs.declared.Told.{Told}
 use Rattle.display.specs.State.{display, selectionOf}
 use Rattle.display.specs.Doors.{withLayout, stateLen, takenOf, lastWords, stateWords, stateBytes, doorAnswer, doorState}
-use Rattle.display.specs.Doors.{doorBuffer, doorRead}
+use Rattle.display.specs.Doors.{choicesOf, doorBuffer, doorRead}
 use Rattle.display.specs.Reached.{Arranged}
 
 -- ---- out of bytes
@@ -33,7 +34,8 @@ pub bare-all : (s pending active : List ℕ) (frame errors word number place cho
     → pending ≡ wordsFrom s 0 → active ≡ wordsFrom s 208 → frame ≡ littleAt s 416 → errors ≡ littleAt s 420 → word ≡ littleAt s 424
     → number ≡ littleAt s 428 → place ≡ littleAt s 432 → chosen ≡ littleAt s 436
     → layout ≡ noLayers
-    → display pending active frame errors (selectionOf (ltb 0 word) number place) (profileOf (eqb (chosen % 2) 1)) layout
+    → display pending active frame errors (selectionOf (ltb 0 word) number place)
+    (profileOf (eqb (chosen % 2) 1) (eqb (chosen / 2 % 2) 0)) layout
     ≡ withLayout (takenOf s) noLayers
 unfolding takenOf
 bare-all s pending active frame errors word number place chosen layout p a f e m n o c l = rw (p, a, f, e, m, n, o, c, l)
@@ -75,14 +77,17 @@ module _ (d : Display) (p : length (d .pending) ≡ 52) where
 
 -- ---- put back, part by part
 
-pub state-bytes : (d : Display) (l p₁ p₂ p₃ : List ℕ) (made soft : ℕ) → length (d .pending) ≡ 52 → length (d .active) ≡ 52
-    → length l ≡ stateLen → made ≡ pick (d .selection .made) 1 0 → soft ≡ pick (d .profile .soft) 1 0
+pub flag-le : (b : Bool) → pick b 1 0 ≤ 1
+flag-le b = pick-keeps (λ (n : ℕ). n ≤ 1) b 1 0 (λ t. omega arith) (λ f. omega arith)
+
+pub state-bytes : (d : Display) (l p₁ p₂ p₃ : List ℕ) (made chosen : ℕ) → length (d .pending) ≡ 52 → length (d .active) ≡ 52
+    → length l ≡ stateLen → made ≡ pick (d .selection .made) 1 0 → chosen ≡ choicesOf (d .profile)
     → p₁ ≡ tab (4 * length (d .pending)) (littleBytes (d .pending))
     → p₂ ≡ tab (4 * length (d .active)) (littleBytes (d .active))
-    → p₃ ≡ tab 24 (littleBytes (d .frame ∷ d .errors ∷ made ∷ d .selection .number ∷ d .selection .place ∷ soft ∷ []))
+    → p₃ ≡ tab 24 (littleBytes (d .frame ∷ d .errors ∷ made ∷ d .selection .number ∷ d .selection .place ∷ chosen ∷ []))
     → putMid 416 24 (putMid 208 208 (putMid 0 208 l p₁) p₂) p₃ ≡ stateBytes d
 unfolding stateBytes lastWords
-state-bytes d l p₁ p₂ p₃ made soft p a long e f e₁ e₂ e₃ =
+state-bytes d l p₁ p₂ p₃ made chosen p a long e f e₁ e₂ e₃ =
     let w = stateWords d in
     let u₁ = words-turn {l = l} {l₀ = l} w (d .pending) p₁ 0 0 208 208 52 refl refl refl (omega arith)
     (λ i h. in-pending d p i h ∙ ap (λ (n : ℕ). getD w n 0) (let q : i ≡ 0 + i = omega arith in q))

@@ -8,21 +8,22 @@ use mathlib.Core.List.{List}
 use native.Mathlib.Omega.{arith}
 use borrow.Author.Tests.{ltb-true, eqb-true}
 use lib.Dec.{ltb, eqb}
+use lib.Ieee.{Float}
 use lib.ListN.{length, length-set}
 use Rattle.lists.specs.Choice.{pick, choose}
 use Rattle.answers.specs.Answers.{done, notSelected, bankActive, bankFull, tablesLength}
 use Rattle.profiles.specs.declared.Profile.{Profile}
 use Rattle.profiles.specs.Profile.{oneBit, twoBits}
 use Rattle.words.specs.Fields.{updateOf}
-use Rattle.words.specs.Check.{checkOf}
-use Rattle.words.proofs.CheckLaws.{check-accepted}
+use Rattle.words.proofs.CheckLaws.{check-accepted, check-let, zeros-let}
 use Rattle.order.proofs.LayoutLaws.{layout-none}
 use Rattle.tables.specs.Geometry.{tablesLen}
 use Rattle.tables.specs.Selection.{endOf, namedBy}
 use Rattle.lists.proofs.Choice.{choose-keeps, lets-through, orElse-right}
 use Rattle.display.specs.declared.Display.{Display}
 use Rattle.display.specs.declared.Told.{Told}
-use Rattle.display.specs.State.{bitsIn, fresh, withErrors, stepped, newOf, writeOf, selectOf, toggleOf, startOf}
+use Rattle.display.specs.State.{bitsIn, fresh, withErrors, stepped, newOf, writeOf, selectOf, toggleOf}
+use Rattle.display.specs.State.{checkIn, startOf}
 use Rattle.display.specs.Put.{putAnswer, putState, putOf}
 use Rattle.display.specs.Paint.{fillTold, paintTold, frameTold, lineTold}
 use Rattle.display.specs.Reached.{Reached, by-new, by-write, by-select, by-toggle, by-start, by-put, by-fill}
@@ -37,15 +38,16 @@ fresh-sound p =
       pending = refl;
       active = refl;
       accepted = inl refl;
+      letIn = zeros-let (p .floats);
       selection = omega arith;
       place = omega arith;
       arranged = layout-none;
     }
 
-pub new-sound : (bits : ℕ) → Sound (newOf bits .state)
-new-sound bits =
-    choose-keeps SoundTold (eqb bits 1) _ _ (λ _. fresh-sound oneBit)
-    (λ _. choose-keeps SoundTold (eqb bits 2) _ _ (λ _. fresh-sound twoBits) (λ _. fresh-sound oneBit))
+pub new-sound : (bits : ℕ) (floats : Bool) → Sound (newOf bits floats .state)
+new-sound bits floats =
+    choose-keeps SoundTold (eqb bits 1) _ _ (λ _. fresh-sound (oneBit floats))
+    (λ _. choose-keeps SoundTold (eqb bits 2) _ _ (λ _. fresh-sound (twoBits floats)) (λ _. fresh-sound (oneBit floats)))
 
 -- a byte is stored below the table's end alone
 pub below-end : (d : Display) (tables : List ℕ) → putAnswer d tables ≡ done
@@ -65,6 +67,7 @@ module _ (d : Display) (s : Sound d) where
         pending = length-set (d .pending) register value ∙ s .pending;
         active = s .active;
         accepted = s .accepted;
+        letIn = s .letIn;
         selection = s .selection;
         place = s .place;
         arranged = s .arranged;
@@ -78,6 +81,7 @@ module _ (d : Display) (s : Sound d) where
         pending = s .pending;
         active = s .active;
         accepted = s .accepted;
+        letIn = s .letIn;
         selection = ltb-true selection 64 h;
         place = omega arith;
         arranged = s .arranged;
@@ -91,6 +95,7 @@ module _ (d : Display) (s : Sound d) where
         pending = s .pending;
         active = s .active;
         accepted = s .accepted;
+        letIn = s .letIn;
         selection = s .selection;
         place = s .place;
         arranged = s .arranged;
@@ -105,6 +110,7 @@ module _ (d : Display) (s : Sound d) where
         pending = s .pending;
         active = s .active;
         accepted = s .accepted;
+        letIn = s .letIn;
         selection = s .selection;
         place = s .place;
         arranged = s .arranged;
@@ -113,11 +119,12 @@ module _ (d : Display) (s : Sound d) where
   pub start-sound : Sound (startOf d .state)
   start-sound =
       choose-keeps SoundTold (updateOf (d .pending)) _ _
-      (λ u. choose-keeps SoundTold (eqb (checkOf (d .pending)) done) _ _
+      (λ u. choose-keeps SoundTold (eqb (checkIn d) done) _ _
       (λ e. record {
         pending = s .pending;
         active = s .pending;
-        accepted = inr (check-accepted _ (eqb-true _ _ e));
+        accepted = inr (check-accepted _ _ (eqb-true _ _ e));
+        letIn = check-let _ _ (eqb-true _ _ e);
         selection = s .selection;
         place = s .place;
         arranged = refl;
@@ -134,6 +141,7 @@ module _ (d : Display) (s : Sound d) where
         pending = s .pending;
         active = s .active;
         accepted = s .accepted;
+        letIn = s .letIn;
         selection = s .selection;
         place = omega arith;
         arranged = s .arranged;
@@ -145,26 +153,29 @@ module _ (d : Display) (s : Sound d) where
   unfolding fillTold
   fill-sound out = s
 
-  pub paint-sound : (a b : ℕ) (tables pictures out : List ℕ) → Sound (paintTold d a b tables pictures out .state)
+  pub paint-sound : (a b : ℕ) (tables pictures : List ℕ) (floats : List Float) (out : List ℕ)
+      → Sound (paintTold d a b tables pictures floats out .state)
   unfolding paintTold
-  paint-sound a b tables pictures out = errors-sound _
+  paint-sound a b tables pictures floats out = errors-sound _
 
-  pub frame-sound : (tables pictures out : List ℕ) → Sound (frameTold d tables pictures out .state)
+  pub frame-sound : (tables pictures : List ℕ) (floats : List Float) (out : List ℕ)
+      → Sound (frameTold d tables pictures floats out .state)
   unfolding frameTold
-  frame-sound tables pictures out = paint-sound 0 8 tables pictures out
+  frame-sound tables pictures floats out = paint-sound 0 8 tables pictures floats out
 
-  pub line-sound : (y : ℕ) (tables pictures out : List ℕ) → Sound (lineTold d y tables pictures out .state)
+  pub line-sound : (y : ℕ) (tables pictures : List ℕ) (floats : List Float) (out : List ℕ)
+      → Sound (lineTold d y tables pictures floats out .state)
   unfolding lineTold
-  line-sound y tables pictures out = errors-sound _
+  line-sound y tables pictures floats out = errors-sound _
 
 pub reached-sound : {d : Display} → Reached d → Sound d
-reached-sound (by-new bits) = new-sound bits
+reached-sound (by-new bits floats) = new-sound bits floats
 reached-sound (by-write {d} register value r) = write-sound d (reached-sound r) register value
 reached-sound (by-select {d} selection r) = select-sound d (reached-sound r) selection
 reached-sound (by-toggle {d} bits r) = toggle-sound d (reached-sound r) bits
 reached-sound (by-start {d} r) = start-sound d (reached-sound r)
 reached-sound (by-put {d} tables r) = put-sound d (reached-sound r) tables
 reached-sound (by-fill {d} out r) = fill-sound d (reached-sound r) out
-reached-sound (by-paint {d} a b tables pictures out r) = paint-sound d (reached-sound r) a b tables pictures out
-reached-sound (by-frame {d} tables pictures out r) = frame-sound d (reached-sound r) tables pictures out
-reached-sound (by-line {d} y tables pictures out r) = line-sound d (reached-sound r) y tables pictures out
+reached-sound (by-paint {d} a b tables pictures floats out r) = paint-sound d (reached-sound r) a b tables pictures floats out
+reached-sound (by-frame {d} tables pictures floats out r) = frame-sound d (reached-sound r) tables pictures floats out
+reached-sound (by-line {d} y tables pictures floats out r) = line-sound d (reached-sound r) y tables pictures floats out

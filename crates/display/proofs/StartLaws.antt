@@ -7,13 +7,12 @@ use lib.Dec.{eqb}
 use Rattle.lists.specs.Choice.{pick, choose, both}
 use Rattle.answers.specs.Answers.{done}
 use Rattle.words.specs.Fields.{updateOf}
-use Rattle.words.specs.Check.{checkOf}
 use Rattle.order.specs.declared.Layout.{Layout}
 use Rattle.order.specs.Layout.{layoutOf}
 use Rattle.display.specs.declared.Display.{Display}
 use Rattle.display.specs.declared.Told.{Told}
 use Rattle.display.specs.declared.Verdict.{Verdict}
-use Rattle.display.specs.State.{display, told, withActive, withFrame, stepped, startOf}
+use Rattle.display.specs.State.{display, told, withActive, withFrame, stepped, checkIn, startOf}
 use Rattle.display.specs.Doors.{withLayout}
 use Rattle.display.specs.Engine.Verdict.{verdictOf}
 
@@ -33,15 +32,16 @@ copies d true true n z e = ap (told (withActive (stepped d) (d .pending))) (e re
 copies d true false n z e = absurd (false≢true z)
 copies d false c n z e = absurd (false≢true z)
 
-module _ (d : Display) (next : ℕ) (step : next ≡ (d .frame + 1) % 2 ^ 32) (v : Verdict) (e : v ≡ verdictOf (d .pending)) where
+module _ (d : Display) (next : ℕ) (step : next ≡ (d .frame + 1) % 2 ^ 32) (v : Verdict)
+    (e : v ≡ verdictOf (d .profile .floats) (d .pending)) where
   pub start-stays : v .passes ≡ false → told (withFrame d next) (v .answer) ≡ startOf d
   start-stays z =
-      rw (step, e) (stays d (updateOf (d .pending)) (eqb (checkOf (d .pending)) done) (checkOf (d .pending)) (rw e at z))
+      rw (step, e) (stays d (updateOf (d .pending)) (eqb (checkIn d) done) (checkIn d) (rw e at z))
 
   pub start-copies : v .passes ≡ true → (l : Layout) → l ≡ layoutOf (d .pending)
       → told (display (d .pending) (d .pending) next (d .errors) (d .selection) (d .profile) l) (v .answer) ≡ startOf d
   start-copies z l h =
-      rw (h, step, e) (copies d (updateOf (d .pending)) (eqb (checkOf (d .pending)) done) (checkOf (d .pending)) (rw e at z)
+      rw (h, step, e) (copies d (updateOf (d .pending)) (eqb (checkIn d) done) (checkIn d) (rw e at z)
       (eqb-true _ _))
 
   -- with what is held left as it was

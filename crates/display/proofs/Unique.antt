@@ -3,7 +3,9 @@
 -- `src/lib.rt`, of the lifetimes κs, the arguments i, the answer a and the arguments at exit e. An outcome
 -- is the answer, with the state, and every byte of the buffer that the call writes. Assumes nothing.
 use Prim.Native.Nat.{ℕ}
+use mathlib.Core.Bool.{Bool}
 use mathlib.Core.List.{List}
+use lib.Ieee.{Float}
 use denote.Ref.{now}
 use Rattle.lists.specs.Call.{Call, callOf, Tied, OneOutcome}
 use Rattle.lists.proofs.Call.{itself, pair-is, tied-unique}
@@ -35,11 +37,11 @@ use Rattle.display.proofs.Display.output_height.Reads as output_height
 
 -- ---- calls that write no buffer
 
--- the number of bits
-abbrev pub newCall : Call ℕ Told
-newCall = callOf new.Post (λ κs i. i .0) (λ κs a e. a)
+-- the number of bits, and whether float layers are let in
+abbrev pub newCall : Call (ℕ × Bool) Told
+newCall = callOf new.Post (λ κs i. (i .0, i .1 .0)) (λ κs a e. a)
 
-pub new-tie : Tied newCall newOf
+pub new-tie : Tied newCall (λ x. newOf (x .0) (x .1))
 new-tie = record { is = λ κs i a e. itself }
 
 pub new-unique : OneOutcome newCall
@@ -115,7 +117,7 @@ write-run-tie = record { is = λ κs i a e. itself }
 pub write-run-unique : OneOutcome writeRunCall
 write-run-unique = tied-unique write-run-tie
 
--- ---- painting: the state, a band's ends, tables, pictures, output; the output is left
+-- ---- painting: the state, a band's ends, tables, pictures, floats, output; the output is left
 
 abbrev pub fillCall : Call (Display × List ℕ) (Told × List ℕ)
 fillCall = callOf fill.Post (λ κs i. (i .0, now (i .1 .0))) (λ κs a e. (a, now (e .1 .0)))
@@ -126,38 +128,51 @@ fill-tie = record { is = λ κs i a e. pair-is }
 pub fill-unique : OneOutcome fillCall
 fill-unique = tied-unique fill-tie
 
-abbrev pub paintCall : Call (Display × ℕ × ℕ × List ℕ × List ℕ × List ℕ) (Told × List ℕ)
+abbrev pub paintCall : Call (Display × ℕ × ℕ × List ℕ × List ℕ × List Float × List ℕ) (Told × List ℕ)
 paintCall =
     callOf paint.Post
-    (λ κs i. (i .0, i .1 .0, i .1 .1 .0, now (i .1 .1 .1 .0), now (i .1 .1 .1 .1 .0), now (i .1 .1 .1 .1 .1 .0)))
-    (λ κs a e. (a, now (e .1 .1 .1 .1 .1 .0)))
+    (λ κs i. (
+      i .0,
+      i .1 .0,
+      i .1 .1 .0,
+      now (i .1 .1 .1 .0),
+      now (i .1 .1 .1 .1 .0),
+      now (i .1 .1 .1 .1 .1 .0),
+      now (i .1 .1 .1 .1 .1 .1 .0),
+    ))
+    (λ κs a e. (a, now (e .1 .1 .1 .1 .1 .1 .0)))
 
 pub paint-tie : Tied paintCall
-    (λ x. (paintTold (x .0) (x .1) (x .2) (x .3) (x .4) (x .5), paintBytes (x .0) (x .1) (x .2) (x .3) (x .4) (x .5)))
+    (λ x. (
+      paintTold (x .0) (x .1) (x .2) (x .3) (x .4) (x .5) (x .6),
+      paintBytes (x .0) (x .1) (x .2) (x .3) (x .4) (x .5) (x .6),
+    ))
 paint-tie = record { is = λ κs i a e. pair-is }
 
 pub paint-unique : OneOutcome paintCall
 paint-unique = tied-unique paint-tie
 
-abbrev pub frameCall : Call (Display × List ℕ × List ℕ × List ℕ) (Told × List ℕ)
+abbrev pub frameCall : Call (Display × List ℕ × List ℕ × List Float × List ℕ) (Told × List ℕ)
 frameCall =
-    callOf frame.Post (λ κs i. (i .0, now (i .1 .0), now (i .1 .1 .0), now (i .1 .1 .1 .0)))
-    (λ κs a e. (a, now (e .1 .1 .1 .0)))
+    callOf frame.Post (λ κs i. (i .0, now (i .1 .0), now (i .1 .1 .0), now (i .1 .1 .1 .0), now (i .1 .1 .1 .1 .0)))
+    (λ κs a e. (a, now (e .1 .1 .1 .1 .0)))
 
-pub frame-tie : Tied frameCall (λ x. (frameTold (x .0) (x .1) (x .2) (x .3), frameBytes (x .0) (x .1) (x .2) (x .3)))
+pub frame-tie : Tied frameCall
+    (λ x. (frameTold (x .0) (x .1) (x .2) (x .3) (x .4), frameBytes (x .0) (x .1) (x .2) (x .3) (x .4)))
 frame-tie = record { is = λ κs i a e. pair-is }
 
 pub frame-unique : OneOutcome frameCall
 frame-unique = tied-unique frame-tie
 
--- the state, the line's number, tables, pictures, output
-abbrev pub lineCall : Call (Display × ℕ × List ℕ × List ℕ × List ℕ) (Told × List ℕ)
+-- the state, the line's number, tables, pictures, floats, output
+abbrev pub lineCall : Call (Display × ℕ × List ℕ × List ℕ × List Float × List ℕ) (Told × List ℕ)
 lineCall =
-    callOf line.Post (λ κs i. (i .0, i .1 .0, now (i .1 .1 .0), now (i .1 .1 .1 .0), now (i .1 .1 .1 .1 .0)))
-    (λ κs a e. (a, now (e .1 .1 .1 .1 .0)))
+    callOf line.Post
+    (λ κs i. (i .0, i .1 .0, now (i .1 .1 .0), now (i .1 .1 .1 .0), now (i .1 .1 .1 .1 .0), now (i .1 .1 .1 .1 .1 .0)))
+    (λ κs a e. (a, now (e .1 .1 .1 .1 .1 .0)))
 
 pub line-tie : Tied lineCall
-    (λ x. (lineTold (x .0) (x .1) (x .2) (x .3) (x .4), lineBytes (x .0) (x .1) (x .2) (x .3) (x .4)))
+    (λ x. (lineTold (x .0) (x .1) (x .2) (x .3) (x .4) (x .5), lineBytes (x .0) (x .1) (x .2) (x .3) (x .4) (x .5)))
 line-tie = record { is = λ κs i a e. pair-is }
 
 pub line-unique : OneOutcome lineCall

@@ -1,6 +1,6 @@
 -- The state as bytes that a C host lends, and what a call through a door answers and leaves. A door has the
 -- name, the arguments and the meaning of a call of the display. Assumes nothing.
-use Prim.Native.Nat.{ℕ, _%_}
+use Prim.Native.Nat.{ℕ, _+_, _/_, _%_}
 use mathlib.Core.List.{List, [], _∷_, _++_}
 use lib.ListN.{length}
 use lib.Dec.{eqb, ltb}
@@ -9,6 +9,7 @@ use Rattle.lists.specs.Little.{littleAt}
 use Rattle.lists.specs.Bytes.{littleBytes}
 use Rattle.lists.specs.Tab.{tab}
 use Rattle.answers.specs.Answers.{stateLength}
+use Rattle.profiles.specs.declared.Profile.{Profile}
 use Rattle.profiles.specs.Profile.{profileOf}
 use Rattle.words.specs.Image.{wordsFrom}
 use Rattle.order.specs.declared.Layout.{Layout}
@@ -23,13 +24,14 @@ stateLen = 440
 
 -- ---- a state out of bytes
 
--- every byte string stands for a state: something is selected where that word is not 0, and a glyph pixel has two bits where
--- the lowest bit of the last word is 1. What is held of the active words is not among the bytes (02 K5)
+-- every byte string stands for a state: something is selected where that word is not 0, a glyph pixel has two bits where bit 0
+-- of the last word is 1, and float layers are let in where bit 1 of it is 0. What is held of the active words is not among the
+-- bytes (02 K5)
 unfoldable pub takenOf : List ℕ → Display
 takenOf s =
     display (wordsFrom s 0) (wordsFrom s 208) (littleAt s 416) (littleAt s 420)
     (selectionOf (ltb 0 (littleAt s 424)) (littleAt s 428) (littleAt s 432))
-    (profileOf (eqb (littleAt s 436 % 2) 1)) (layoutOf (wordsFrom s 208))
+    (profileOf (eqb (littleAt s 436 % 2) 1) (eqb (littleAt s 436 / 2 % 2) 0)) (layoutOf (wordsFrom s 208))
 
 -- a state that holds something else of its active words: as bytes it is the same
 abbrev pub withLayout : Display → Layout → Display
@@ -37,12 +39,16 @@ withLayout d layout = display (d .pending) (d .active) (d .frame) (d .errors) (d
 
 -- ---- bytes out of a state
 
--- the words behind the registers: frame number, error word, the selection with 1 where one was made, and 1 where a glyph
--- pixel has two bits
+-- what was chosen, as a word: bit 0 where a glyph pixel has two bits, bit 1 where float layers are not let in, so that zeros are
+-- a fresh state of one bit that lets them in
+unfoldable pub choicesOf : Profile → ℕ
+choicesOf p = pick (p .soft) 1 0 + pick (p .floats) 0 2
+
+-- the words behind the registers: frame number, error word, the selection with 1 where one was made, and what was chosen
 unfoldable pub lastWords : Display → List ℕ
 lastWords d =
     d .frame ∷ d .errors ∷ pick (d .selection .made) 1 0 ∷ d .selection .number ∷ d .selection .place
-    ∷ pick (d .profile .soft) 1 0 ∷ []
+    ∷ choicesOf (d .profile) ∷ []
 
 -- all 110
 unfoldable pub stateWords : Display → List ℕ

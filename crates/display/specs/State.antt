@@ -1,5 +1,5 @@
 -- The state, and what new, write, select, toggle and start answer and leave: 01 "What the display is made
--- of", "Registers", "Answers by number", 02 K2, K5. Assumes nothing.
+-- of", "Registers", "Answers by number", 02 K2, K5, K7. Assumes nothing.
 use Prim.Native.Nat.{ℕ, _+_, _%_, _^_}
 use mathlib.Core.List.{List}
 use mathlib.Core.Bool.{Bool, true, false}
@@ -81,11 +81,12 @@ told d answer = record { state = d; answer = answer }
 
 -- ---- new
 
--- 02 K2: "17 for a bit number other than 1 or 2 when making a state, handing back a fresh one-bit state"
-abbrev pub newOf : ℕ → Told
-newOf bits =
-    choose (eqb bits 1) (told (fresh oneBit) done)
-    (choose (eqb bits 2) (told (fresh twoBits) done) (told (fresh oneBit) glyphBits))
+-- 02 K2: "17 for a bit number other than 1 or 2 when making a state, handing back a fresh one-bit state"; K7: float layers
+-- are let in "save in the host entry and the sheet program"
+abbrev pub newOf : ℕ → Bool → Told
+newOf bits floats =
+    choose (eqb bits 1) (told (fresh (oneBit floats)) done)
+    (choose (eqb bits 2) (told (fresh (twoBits floats)) done) (told (fresh (oneBit floats)) glyphBits))
 
 -- ---- write, select, toggle
 
@@ -109,12 +110,15 @@ toggleOf d bits = told (withErrors d (bitXor (d .errors) bits)) done
 abbrev pub stepped : Display → Display
 stepped d = withFrame d ((d .frame + 1) % 2 ^ 32)
 
+-- what is wrong with the pending words, by what the state lets in
+abbrev pub checkIn : Display → ℕ
+checkIn d = checkOf (d .profile .floats) (d .pending)
+
 -- "Then, if the pending update bit is set, the pending words are checked, and if they pass they become
 -- the active ones. With the update bit clear nothing is checked or copied. The update bit stays until
 -- written."; 7 to 11: "frame number stepped, else unchanged"
 abbrev pub startOf : Display → Told
 startOf d =
     choose (updateOf (d .pending))
-    (choose (eqb (checkOf (d .pending)) done) (told (withActive (stepped d) (d .pending)) done)
-    (told (stepped d) (checkOf (d .pending))))
+    (choose (eqb (checkIn d) done) (told (withActive (stepped d) (d .pending)) done) (told (stepped d) (checkIn d)))
     (told (stepped d) done)

@@ -1,6 +1,7 @@
 // The calls of a display for a host in C, over a state that it lends as bytes: each takes the bytes apart,
 // makes the call and puts them back. To Rattle the state stays closed: nothing here hands out a `Display`.
 ghost use mathlib.Core.Path.{_≡_};
+ghost use mathlib.Core.Bool.{true};
 ghost use lib.ListN.{length};
 ghost use Rattle.lists.specs.Choice.{pick};
 ghost use Rattle.words.specs.Fields.{widthOf, heightOf};
@@ -11,7 +12,7 @@ ghost use Rattle.display.specs.Runs.{toldBy, putRunOf, putRunTables, wri
 ghost use Rattle.display.specs.Paint.{fillTold, fillBytes, paintTold, paintBytes, frameTold, frameBytes};
 ghost use Rattle.display.specs.Paint.{lineTold, lineBytes};
 ghost use Rattle.display.specs.Doors.{withLayout, stateLen, takenOf, stateBytes, doorAnswer, doorState};
-ghost use Rattle.display.specs.Doors.{doorBuffer, doorRead};
+ghost use Rattle.display.specs.Doors.{choicesOf, doorBuffer, doorRead};
 use crate::Display;
 use crate::Told;
 use crate::begun;
@@ -26,7 +27,7 @@ use words::image::word_at;
 use words::image::words_at;
 
 // Pending words, active words, frame number, error word, whether something is selected, selection, place,
-// profile.
+// what was chosen.
 const STATE_LEN: usize = 440;
 
 // ---- the state
@@ -43,7 +44,9 @@ fn bare(state: &[u8]) -> Display
     let made = 0 < word_at(state, 424);
     let number = word_at(state, 428);
     let place = word_at(state, 432);
-    let soft = word_at(state, 436) % 2 == 1;
+    let chosen = word_at(state, 436);
+    let soft = chosen % 2 == 1;
+    let floats = chosen / 2 % 2 == 0;
     Display {
         pending,
         active,
@@ -54,7 +57,7 @@ fn bare(state: &[u8]) -> Display
             number,
             place,
         },
-        profile: Profile { soft },
+        profile: Profile { soft, floats },
         layout: no_layers(),
     }
 }
@@ -79,19 +82,29 @@ fn flag_of(set: bool) -> u32
     0
 }
 
+fn choices_of(profile: Profile) -> u32
+    ensures { λ r. ⌜ r ≡ choicesOf profile ⌝ }
+{
+    let soft = flag_of(profile.soft);
+    if profile.floats {
+        return soft;
+    }
+    soft + 2
+}
+
 fn put_back(d: Display, state: &mut [u8])
     requires { ⌜ length (now state) ≡ stateLen ⌝ }
     ensures { λ _. ⌜ now (state .exit) ≡ stateBytes d ⌝ }
 {
     let made = flag_of(d.selection.made);
-    let soft = flag_of(d.profile.soft);
+    let chosen = choices_of(d.profile);
     let last: [u32; 6] = [
         d.frame,
         d.errors,
         made,
         d.selection.number,
         d.selection.place,
-        soft,
+        chosen,
     ];
     put_words(&mut state[0..208], &d.pending);
     put_words(&mut state[208..416], &d.active);
@@ -112,13 +125,13 @@ fn given(told: Told, state: &mut [u8]) -> u32
 
 #[no_mangle]
 pub extern "C" fn spoonwing_display_new(state: &mut [u8], bits: u32) -> u32
-    ensures answer { λ r. ⌜ r ≡ doorAnswer (now (state .entry)) (λ _. newOf bits) ⌝ }
-    ensures state { λ _. ⌜ now (state .exit) ≡ doorState (now (state .entry)) (λ _. newOf bits) ⌝ }
+    ensures answer { λ r. ⌜ r ≡ doorAnswer (now (state .entry)) (λ _. newOf bits true) ⌝ }
+    ensures state { λ _. ⌜ now (state .exit) ≡ doorState (now (state .entry)) (λ _. newOf bits true) ⌝ }
 {
     if state.len() != STATE_LEN {
         return STATE_LENGTH as u32;
     }
-    given(Display::new(bits), state)
+    given(Display::new(bits, true), state)
 }
 
 #[no_mangle]
@@ -241,20 +254,24 @@ pub extern "C" fn spoonwing_display_paint(
     high: u32,
     tables: &[u8],
     pictures: &[u8],
+    floats: &[f32],
     out: &mut [u8],
 ) -> u32
     ensures answer { λ r. ⌜ r ≡ doorAnswer (now (state .entry))
-        (λ d. paintTold d low high (now (tables .entry)) (now (pictures .entry)) (now (out .entry))) ⌝ }
+        (λ d. paintTold d low high (now (tables .entry)) (now (pictures .entry)) (now (floats .entry)) (now (out .entry))) ⌝ }
     ensures state { λ _. ⌜ now (state .exit) ≡ doorState (now (state .entry))
-        (λ d. paintTold d low high (now (tables .entry)) (now (pictures .entry)) (now (out .entry))) ⌝ }
+        (λ d. paintTold d low high (now (tables .entry)) (now (pictures .entry)) (now (floats .entry)) (now (out .entry))) ⌝ }
     ensures output { λ _. ⌜ now (out .exit)
         ≡ doorBuffer (now (state .entry)) (λ d. paintBytes d low high (now (tables .entry)) (now (pictures .entry))
-        (now (out .entry))) (now (out .entry)) ⌝ }
+        (now (floats .entry)) (now (out .entry))) (now (out .entry)) ⌝ }
 {
     if state.len() != STATE_LEN {
         return STATE_LENGTH as u32;
     }
-    given(taken(state).paint(low, high, tables, pictures, out), state)
+    given(
+        taken(state).paint(low, high, tables, pictures, floats, out),
+        state,
+    )
 }
 
 #[no_mangle]
@@ -262,20 +279,21 @@ pub extern "C" fn spoonwing_display_frame(
     state: &mut [u8],
     tables: &[u8],
     pictures: &[u8],
+    floats: &[f32],
     out: &mut [u8],
 ) -> u32
     ensures answer { λ r. ⌜ r ≡ doorAnswer (now (state .entry))
-        (λ d. frameTold d (now (tables .entry)) (now (pictures .entry)) (now (out .entry))) ⌝ }
+        (λ d. frameTold d (now (tables .entry)) (now (pictures .entry)) (now (floats .entry)) (now (out .entry))) ⌝ }
     ensures state { λ _. ⌜ now (state .exit) ≡ doorState (now (state .entry))
-        (λ d. frameTold d (now (tables .entry)) (now (pictures .entry)) (now (out .entry))) ⌝ }
+        (λ d. frameTold d (now (tables .entry)) (now (pictures .entry)) (now (floats .entry)) (now (out .entry))) ⌝ }
     ensures output { λ _. ⌜ now (out .exit)
         ≡ doorBuffer (now (state .entry)) (λ d. frameBytes d (now (tables .entry)) (now (pictures .entry))
-        (now (out .entry))) (now (out .entry)) ⌝ }
+        (now (floats .entry)) (now (out .entry))) (now (out .entry)) ⌝ }
 {
     if state.len() != STATE_LEN {
         return STATE_LENGTH as u32;
     }
-    given(taken(state).frame(tables, pictures, out), state)
+    given(taken(state).frame(tables, pictures, floats, out), state)
 }
 
 #[no_mangle]
@@ -284,20 +302,21 @@ pub extern "C" fn spoonwing_display_line(
     y: u32,
     tables: &[u8],
     pictures: &[u8],
+    floats: &[f32],
     out: &mut [u8],
 ) -> u32
     ensures answer { λ r. ⌜ r ≡ doorAnswer (now (state .entry))
-        (λ d. lineTold d y (now (tables .entry)) (now (pictures .entry)) (now (out .entry))) ⌝ }
+        (λ d. lineTold d y (now (tables .entry)) (now (pictures .entry)) (now (floats .entry)) (now (out .entry))) ⌝ }
     ensures state { λ _. ⌜ now (state .exit) ≡ doorState (now (state .entry))
-        (λ d. lineTold d y (now (tables .entry)) (now (pictures .entry)) (now (out .entry))) ⌝ }
+        (λ d. lineTold d y (now (tables .entry)) (now (pictures .entry)) (now (floats .entry)) (now (out .entry))) ⌝ }
     ensures output { λ _. ⌜ now (out .exit)
         ≡ doorBuffer (now (state .entry)) (λ d. lineBytes d y (now (tables .entry)) (now (pictures .entry))
-        (now (out .entry))) (now (out .entry)) ⌝ }
+        (now (floats .entry)) (now (out .entry))) (now (out .entry)) ⌝ }
 {
     if state.len() != STATE_LEN {
         return STATE_LENGTH as u32;
     }
-    given(taken(state).line(y, tables, pictures, out), state)
+    given(taken(state).line(y, tables, pictures, floats, out), state)
 }
 
 // ---- reads: 0 of a state of another length

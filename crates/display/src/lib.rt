@@ -86,8 +86,8 @@ fn told_by(ran: Ran) -> Told
 }
 
 // A display to which nothing has happened, and an answer.
-fn made(soft: bool, answer: u8) -> Told
-    ensures { λ r. ⌜ r ≡ told (fresh (profileOf soft)) answer ⌝ }
+fn made(soft: bool, floats: bool, answer: u8) -> Told
+    ensures { λ r. ⌜ r ≡ told (fresh (profileOf soft floats)) answer ⌝ }
 {
     let state = Display {
         pending: [0; 52],
@@ -99,7 +99,7 @@ fn made(soft: bool, answer: u8) -> Told
             number: 0,
             place: 0,
         },
-        profile: Profile { soft },
+        profile: Profile { soft, floats },
         layout: no_layers(),
     };
     Told { state, answer }
@@ -111,8 +111,8 @@ struct Verdict {
     answer: u8,
 }
 
-fn verdict_on(pending: &[u32; 52]) -> Verdict
-    ensures { λ r. ⌜ r ≡ verdictOf (now (pending .entry)) ⌝ }
+fn verdict_on(floats: bool, pending: &[u32; 52]) -> Verdict
+    ensures { λ r. ⌜ r ≡ verdictOf floats (now (pending .entry)) ⌝ }
 {
     if !is_update(pending) {
         return Verdict {
@@ -120,7 +120,7 @@ fn verdict_on(pending: &[u32; 52]) -> Verdict
             answer: DONE,
         };
     }
-    let refusal = refusal_of(pending);
+    let refusal = refusal_of(floats, pending);
     let passes = refusal == DONE;
     Verdict {
         passes,
@@ -135,7 +135,7 @@ fn begun(mut state: Display) -> Told
     let frame = state.frame;
     state.frame = std::num::wrapping_add_u32(frame, 1);
     let pending = state.pending;
-    let verdict = verdict_on(&pending);
+    let verdict = verdict_on(state.profile.floats, &pending);
     let answer = verdict.answer;
     if verdict.passes {
         state.active = pending;
@@ -146,17 +146,18 @@ fn begun(mut state: Display) -> Told
 
 impl Display {
     // A display to which nothing has happened: all numbers 0, and nothing selected. A pixel of a glyph has 1
-    // or 2 bits; another number is refused with 17, and the display handed back has 1.
-    pub fn new(bits: u32) -> Told
-        ensures { λ r. ⌜ r ≡ newOf bits ⌝ }
+    // or 2 bits; another number is refused with 17, and the display handed back has 1. Float layers are let in, or
+    // refused by a start with 7.
+    pub fn new(bits: u32, floats: bool) -> Told
+        ensures { λ r. ⌜ r ≡ newOf bits floats ⌝ }
     {
         if bits == 1 {
-            return made(false, DONE);
+            return made(false, floats, DONE);
         }
         if bits == 2 {
-            return made(true, DONE);
+            return made(true, floats, DONE);
         }
-        made(false, GLYPH_BITS)
+        made(false, floats, GLYPH_BITS)
     }
 
     // Changes a pending word. A register above 51 is refused with 1, and all is as it was.
@@ -219,7 +220,7 @@ impl Display {
         let frame = self.frame;
         let next = std::num::wrapping_add_u32(frame, 1);
         let pending = self.pending;
-        let verdict = verdict_on(&pending);
+        let verdict = verdict_on(self.profile.floats, &pending);
         let answer = verdict.answer;
         self.frame = next;
         if !verdict.passes {
@@ -294,7 +295,7 @@ impl Display {
     }
 
     // Paints the layers of depths from `low` up to but not `high` over what `out` holds, and sets error bit
-    // 4n for each graphics layer n among them whose list has no END. Refused with 15, 12, 13, 6, 14 in
+    // 4n for each graphics layer n among them whose list has no END. Refused with 15, 12, 13, 6, 14, 18 in
     // this order; a refusal changes nothing.
     pub fn paint(
         mut self,
@@ -302,13 +303,14 @@ impl Display {
         high: u32,
         tables: &[u8],
         pictures: &[u8],
+        floats: &[f32],
         out: &mut [u8],
     ) -> Told
         requires { ⌜ Arranged self ⌝ }
         ensures state { λ r. ⌜ r
-            ≡ paintTold self low high (now (tables .entry)) (now (pictures .entry)) (now (out .entry)) ⌝ }
+            ≡ paintTold self low high (now (tables .entry)) (now (pictures .entry)) (now (floats .entry)) (now (out .entry)) ⌝ }
         ensures output { λ _. ⌜ now (out .exit)
-            ≡ paintBytes self low high (now (tables .entry)) (now (pictures .entry)) (now (out .entry)) ⌝ }
+            ≡ paintBytes self low high (now (tables .entry)) (now (pictures .entry)) (now (floats .entry)) (now (out .entry)) ⌝ }
     {
         let profile = self.profile;
         let layout = self.layout;
@@ -322,6 +324,7 @@ impl Display {
             high,
             tables,
             pictures,
+            floats,
             out,
         );
         self.errors = painted.errors;
@@ -332,11 +335,12 @@ impl Display {
     }
 
     // Paints a whole frame: a fill, and the layers of every depth. Refused as `paint` is, before the fill.
-    pub fn frame(mut self, tables: &[u8], pictures: &[u8], out: &mut [u8]) -> Told
+    pub fn frame(mut self, tables: &[u8], pictures: &[u8], floats: &[f32], out: &mut [u8]) -> Told
         requires { ⌜ Arranged self ⌝ }
-        ensures state { λ r. ⌜ r ≡ frameTold self (now (tables .entry)) (now (pictures .entry)) (now (out .entry)) ⌝ }
+        ensures state { λ r. ⌜ r ≡ frameTold self (now (tables .entry)) (now (pictures .entry)) (now (floats .entry)) (now
+            (out .entry)) ⌝ }
         ensures output { λ _. ⌜ now (out .exit)
-            ≡ frameBytes self (now (tables .entry)) (now (pictures .entry)) (now (out .entry)) ⌝ }
+            ≡ frameBytes self (now (tables .entry)) (now (pictures .entry)) (now (floats .entry)) (now (out .entry)) ⌝ }
     {
         let profile = self.profile;
         let layout = self.layout;
@@ -348,6 +352,7 @@ impl Display {
             self.errors,
             tables,
             pictures,
+            floats,
             out,
         );
         self.errors = painted.errors;
@@ -358,12 +363,20 @@ impl Display {
     }
 
     // Paints line y of a whole frame into `out`, which has that line alone, whatever it held; the error bits are those
-    // of the whole frame. Refused with 12, 15, 13, 6, 14 in this order; a refusal changes nothing.
-    pub fn line(mut self, y: u32, tables: &[u8], pictures: &[u8], out: &mut [u8]) -> Told
+    // of the whole frame. Refused with 12, 15, 13, 6, 14, 18 in this order; a refusal changes nothing.
+    pub fn line(
+        mut self,
+        y: u32,
+        tables: &[u8],
+        pictures: &[u8],
+        floats: &[f32],
+        out: &mut [u8],
+    ) -> Told
         requires { ⌜ Arranged self ⌝ }
-        ensures state { λ r. ⌜ r ≡ lineTold self y (now (tables .entry)) (now (pictures .entry)) (now (out .entry)) ⌝ }
+        ensures state { λ r. ⌜ r ≡ lineTold self y (now (tables .entry)) (now (pictures .entry)) (now (floats .entry)) (now
+            (out .entry)) ⌝ }
         ensures output { λ _. ⌜ now (out .exit)
-            ≡ lineBytes self y (now (tables .entry)) (now (pictures .entry)) (now (out .entry)) ⌝ }
+            ≡ lineBytes self y (now (tables .entry)) (now (pictures .entry)) (now (floats .entry)) (now (out .entry)) ⌝ }
     {
         let profile = self.profile;
         let layout = self.layout;
@@ -376,6 +389,7 @@ impl Display {
             y,
             tables,
             pictures,
+            floats,
             out,
         );
         self.errors = painted.errors;

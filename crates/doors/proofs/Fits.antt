@@ -2,7 +2,7 @@
 -- theirs. Assumes nothing.
 use mathlib.Core.Path.{_≡_, refl, ap, _∙_}
 use mathlib.Core.Logic.{⊎-elim}
-use mathlib.Core.Bool.{Bool}
+use mathlib.Core.Bool.{Bool, true}
 use mathlib.Core.List.{List}
 use Prim.Native.Nat.{ℕ, zero, suc, _+_, _*_, _/_, _%_, _^_, _≤_, _<_}
 use native.Mathlib.Omega.{arith}
@@ -11,6 +11,7 @@ use borrow.Author.Tests.{ltb-true, eqb-true}
 use lib.Bits.{bitOr, bitXor, or-lt, xor-lt}
 use lib.Pow.{pow-lt, pow-pos}
 use lib.Dec.{ltb, eqb}
+use lib.Ieee.{Float}
 use lib.ListN.{length, getD, drop, replicate, set, length-set}
 use lib.Seq.{getD-drop, getD-set-same, getD-set-other}
 use Rattle.lists.proofs.Choice.{same-or, pick-keeps, choose-keeps}
@@ -25,7 +26,6 @@ use Rattle.profiles.specs.Profile.{oneBit, twoBits}
 use Rattle.profiles.proofs.ProfileLaws.{bits-few}
 use Rattle.words.specs.Fields.{updateOf, shownOf, layerOf}
 use Rattle.words.specs.Order.{here}
-use Rattle.words.specs.Check.{checkOf}
 use Rattle.words.proofs.ImageLaws.{words-long, words-fit}
 use Rattle.tables.specs.Selection.{kindOf, endOf, controllerOf}
 use Rattle.tables.specs.declared.Selection.{Selection}
@@ -37,7 +37,7 @@ use Rattle.frames.specs.Line.{lineRefusalOf, lineErrorsAfter}
 use Rattle.display.specs.declared.Display.{Display}
 use Rattle.display.specs.declared.Told.{Told}
 use Rattle.display.specs.State.{bitsIn, fresh, newOf, withPending, withActive, withFrame, withErrors, withSelection}
-use Rattle.display.specs.State.{stepped, writeOf, selectOf, toggleOf, startOf}
+use Rattle.display.specs.State.{stepped, writeOf, selectOf, toggleOf, checkIn, startOf}
 use Rattle.display.specs.Put.{putAnswer, putState, putOf}
 use Rattle.display.specs.Runs.{lent, putOne, puts, putRunOf, writeOne, writes, writeRunOf}
 use Rattle.display.specs.Paint.{sceneWith, fillTold, paintTold, frameTold, lineTold}
@@ -85,11 +85,11 @@ fresh-fits p =
       arranged = fresh-arranged p;
     }
 
-new-fits : (bits : ℕ) → Fits (newOf bits .state)
+new-fits : (bits : ℕ) → Fits (newOf bits true .state)
 new-fits bits =
-    choose-keeps (λ (t : Told). Fits (t .state)) (eqb bits 1) _ _ (λ _. fresh-fits oneBit)
-    (λ _. choose-keeps (λ (t : Told). Fits (t .state)) (eqb bits 2) _ _ (λ _. fresh-fits twoBits)
-    (λ _. fresh-fits oneBit))
+    choose-keeps (λ (t : Told). Fits (t .state)) (eqb bits 1) _ _ (λ _. fresh-fits (oneBit true))
+    (λ _. choose-keeps (λ (t : Told). Fits (t .state)) (eqb bits 2) _ _ (λ _. fresh-fits (twoBits true))
+    (λ _. fresh-fits (oneBit true)))
 
 -- ---- a part replaced
 
@@ -208,7 +208,7 @@ module _ (d : Display) (f : Fits d) where
   start-fits : Fits (startOf d .state)
   start-fits =
       choose-keeps FitsTold (updateOf (d .pending)) _ _
-      (λ u. choose-keeps FitsTold (eqb (checkOf (d .pending)) done) _ _
+      (λ u. choose-keeps FitsTold (eqb (checkIn d) done) _ _
       (λ e. active-kept (stepped d) stepped-fits (d .pending) (f .pending) (f .pending-words))
       (λ e. stepped-fits))
       (λ u. stepped-fits)
@@ -225,23 +225,26 @@ module _ (d : Display) (f : Fits d) where
       (bit-fits (4 * controllerOf (d .selection .number) + 1) (omega arith))))
       (λ g. f))
 
-  paint-fits : (a b : ℕ) (tables pictures out : List ℕ) → Fits (paintTold d a b tables pictures out .state)
+  paint-fits : (a b : ℕ) (tables pictures : List ℕ) (floats : List Float) (out : List ℕ)
+      → Fits (paintTold d a b tables pictures floats out .state)
   unfolding paintTold
-  paint-fits a b tables pictures out =
-      errors-kept d f _ (painted-fits (sceneWith d tables pictures) a b out (d .errors) (f .errors))
+  paint-fits a b tables pictures floats out =
+      errors-kept d f _ (painted-fits (sceneWith d tables pictures floats) a b out (d .errors) (f .errors))
 
   fill-fits : (out : List ℕ) → Fits (fillTold d out .state)
   unfolding fillTold
   fill-fits out = f
 
-  frame-fits : (tables pictures out : List ℕ) → Fits (frameTold d tables pictures out .state)
+  frame-fits : (tables pictures : List ℕ) (floats : List Float) (out : List ℕ)
+      → Fits (frameTold d tables pictures floats out .state)
   unfolding frameTold
-  frame-fits tables pictures out = paint-fits 0 8 tables pictures out
+  frame-fits tables pictures floats out = paint-fits 0 8 tables pictures floats out
 
-  line-fits : (y : ℕ) (tables pictures out : List ℕ) → Fits (lineTold d y tables pictures out .state)
+  line-fits : (y : ℕ) (tables pictures : List ℕ) (floats : List Float) (out : List ℕ)
+      → Fits (lineTold d y tables pictures floats out .state)
   unfolding lineTold lineErrorsAfter
-  line-fits y tables pictures out =
-      let s = sceneWith d tables pictures in
+  line-fits y tables pictures floats out =
+      let s = sceneWith d tables pictures floats in
       errors-kept d f _
       (pick-keeps (λ (x : ℕ). x < 2 ^ 32) (eqb (lineRefusalOf s y out) done) _ _
       (λ t. errors-fit s 0 8 (d .errors) (f .errors)) (λ t. f .errors))
@@ -280,6 +283,6 @@ module _ (d : Display) (f : Fits d) where
   call-fits (ask-put-run tables run) t = put-run-fits tables run
   call-fits (ask-write-run run) t = write-run-fits run t
   call-fits (ask-fill out) t = fill-fits d f out
-  call-fits (ask-paint low high tables pictures out) t = paint-fits d f low high tables pictures out
-  call-fits (ask-frame tables pictures out) t = frame-fits d f tables pictures out
-  call-fits (ask-line y tables pictures out) t = line-fits d f y tables pictures out
+  call-fits (ask-paint low high tables pictures floats out) t = paint-fits d f low high tables pictures floats out
+  call-fits (ask-frame tables pictures floats out) t = frame-fits d f tables pictures floats out
+  call-fits (ask-line y tables pictures floats out) t = line-fits d f y tables pictures floats out

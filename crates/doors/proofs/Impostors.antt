@@ -4,6 +4,7 @@
 -- nothing.
 use Prim.Native.Nat.{ℕ, _^_, _<_}
 use mathlib.Core.Path.{_≡_, refl, sym, ap, _∙_}
+use mathlib.Core.Bool.{true, false}
 use mathlib.Core.List.{List, [], _∷_}
 use native.Mathlib.Omega.{arith}
 use lib.ListN.{length, getD}
@@ -13,7 +14,7 @@ use Rattle.answers.specs.Answers.{done}
 use Rattle.display.specs.declared.Display.{Display}
 use Rattle.display.specs.declared.Told.{Told}
 use Rattle.profiles.specs.Profile.{oneBit}
-use Rattle.display.specs.State.{newOf, startOf, writeOf, selectOf, toggleOf}
+use Rattle.display.specs.State.{fresh, newOf, startOf, writeOf, selectOf, toggleOf}
 use Rattle.display.specs.Put.{putOf}
 use Rattle.display.specs.Runs.{toldBy, putRunOf, writeRunOf}
 use Rattle.display.proofs.PutLaws.{put-done}
@@ -42,12 +43,12 @@ held : (d : Display) → Fits d → Holds (stateBytes d) d
 held d f = record { bytes = refl; fits = f }
 
 fresh-held : Holds (stateBytes first) first
-fresh-held = held first (fresh-fits oneBit)
+fresh-held = held first (fresh-fits (oneBit false))
 
 -- the words of the one pixel are written one after another
 written-fits : (ground : ℕ) → ground < 2 ^ 32 → Fits (written ground)
 written-fits ground b =
-    let f1 = call-fits first (fresh-fits oneBit) (ask-write 0 5) (omega arith) in
+    let f1 = call-fits first (fresh-fits (oneBit false)) (ask-write 0 5) (omega arith) in
     let f2 = call-fits _ f1 (ask-write 1 0x0001_0001) (omega arith) in
     let f3 = call-fits _ f2 (ask-write 2 ground) b in
     let f4 = call-fits _ f3 (ask-write 4 0x0101) (omega arith) in
@@ -62,7 +63,7 @@ started-held : (ground : ℕ) → ground < 2 ^ 32 → Holds (stateBytes (started
 started-held ground b = held (started ground) (call-fits (written ground) (written-fits ground b) ask-start tt)
 
 selecting-held : Holds (stateBytes selecting) selecting
-selecting-held = held selecting (call-fits first (fresh-fits oneBit) (ask-select 1) tt)
+selecting-held = held selecting (call-fits first (fresh-fits (oneBit false)) (ask-select 1) tt)
 
 -- states that differ have bytes that differ
 bytes-apart : (d e : Display) → Fits d → Fits e → (f : Display → ℕ) → (f d ≡ f e → ⊥) → stateBytes d ≡ stateBytes e → ⊥
@@ -73,7 +74,7 @@ bytes-apart d e p q f ne same = ne (ap f (sym (taken-back d p) ∙ ap takenOf sa
 module _ (a : ℕ) (s : List ℕ) (down : TurnsDown a) where
   pub new-door-down : Meets newDoor (stateBytes selecting, 1) (a, s) → ⊥
   new-door-down m =
-      down (pair-is .1 (tied-meets new-door-tie m) .0 ∙ answer-held _ selecting selecting-held (λ d. newOf 1))
+      down (pair-is .1 (tied-meets new-door-tie m) .0 ∙ answer-held _ selecting selecting-held (λ d. newOf 1 true))
 
   pub write-door-down : Meets writeDoor (stateBytes first, 0, 1) (a, s) → ⊥
   write-door-down m =
@@ -121,47 +122,49 @@ module _ (a : ℕ) (s : List ℕ) (down : TurnsDown a) where
       ∙ small.fill-accepted .0)
 
   pub paint-door-down : (o : List ℕ)
-      → Meets paintDoor (stateBytes (started grey), 0, 8, blank, white, filled) (a, s, o) → ⊥
+      → Meets paintDoor (stateBytes (started grey), 0, 8, blank, white, [], filled) (a, s, o) → ⊥
   paint-door-down o m =
       down (triple-is .1 (tied-meets paint-door-tie m) .0
-      ∙ answer-held _ (started grey) (started-held grey (omega arith)) (λ d. paintTold d 0 8 blank white filled)
+      ∙ answer-held _ (started grey) (started-held grey (omega arith)) (λ d. paintTold d 0 8 blank white [] filled)
       ∙ small.paint-accepted white refl)
 
-  pub frame-door-down : (o : List ℕ) → Meets frameDoor (stateBytes (started grey), blank, white, filled) (a, s, o) → ⊥
+  pub frame-door-down : (o : List ℕ) → Meets frameDoor (stateBytes (started grey), blank, white, [], filled) (a, s, o) → ⊥
   frame-door-down o m =
       down (triple-is .1 (tied-meets frame-door-tie m) .0
-      ∙ answer-held _ (started grey) (started-held grey (omega arith)) (λ d. frameTold d blank white filled)
+      ∙ answer-held _ (started grey) (started-held grey (omega arith)) (λ d. frameTold d blank white [] filled)
       ∙ small.frame-accepted white refl)
 
-  pub line-door-down : (o : List ℕ) → Meets lineDoor (stateBytes (started grey), 0, blank, white, filled) (a, s, o) → ⊥
+  pub line-door-down : (o : List ℕ) → Meets lineDoor (stateBytes (started grey), 0, blank, white, [], filled) (a, s, o) → ⊥
   line-door-down o m =
       down (triple-is .1 (tied-meets line-door-tie m) .0
-      ∙ answer-held _ (started grey) (started-held grey (omega arith)) (λ d. lineTold d 0 blank white filled)
+      ∙ answer-held _ (started grey) (started-held grey (omega arith)) (λ d. lineTold d 0 blank white [] filled)
       ∙ small.line-accepted white refl)
 
 -- ---- "one that touches nothing"
 
 pub new-door-untouched : Meets newDoor (stateBytes selecting, 1) (done, stateBytes selecting) → ⊥
 new-door-untouched m =
-    bytes-apart selecting first (selecting-held .fits) (fresh-fits oneBit)
+    bytes-apart selecting (fresh (oneBit true)) (selecting-held .fits) (fresh-fits (oneBit true))
     (λ (d : Display). d .selection .number) (λ (z : 1 ≡ 0). omega arith)
-    (pair-is .1 (tied-meets new-door-tie m) .1 ∙ state-held _ selecting selecting-held (λ d. newOf 1))
+    (pair-is .1 (tied-meets new-door-tie m) .1 ∙ state-held _ selecting selecting-held (λ d. newOf 1 true))
 
 pub write-door-untouched : Meets writeDoor (stateBytes first, 0, 1) (done, stateBytes first) → ⊥
 write-door-untouched m =
-    bytes-apart first (writeOf first 0 1 .state) (fresh-fits oneBit) (call-fits first (fresh-fits oneBit) (ask-write 0 1) (omega arith))
+    bytes-apart first (writeOf first 0 1 .state) (fresh-fits (oneBit false)) (call-fits first (fresh-fits (oneBit false))
+    (ask-write 0 1) (omega arith))
     (λ (d : Display). getD (d .pending) 0 0) (λ (z : 0 ≡ 1). omega arith)
     (pair-is .1 (tied-meets write-door-tie m) .1 ∙ state-held _ first fresh-held (λ d. writeOf d 0 1))
 
 pub select-door-untouched : Meets selectDoor (stateBytes first, 1) (done, stateBytes first) → ⊥
 select-door-untouched m =
-    bytes-apart first selecting (fresh-fits oneBit) (selecting-held .fits)
+    bytes-apart first selecting (fresh-fits (oneBit false)) (selecting-held .fits)
     (λ (d : Display). d .selection .number) (λ (z : 0 ≡ 1). omega arith)
     (pair-is .1 (tied-meets select-door-tie m) .1 ∙ state-held _ first fresh-held (λ d. selectOf d 1))
 
 pub toggle-door-untouched : Meets toggleDoor (stateBytes first, 1) (done, stateBytes first) → ⊥
 toggle-door-untouched m =
-    bytes-apart first (toggleOf first 1 .state) (fresh-fits oneBit) (call-fits first (fresh-fits oneBit) (ask-toggle 1) (omega arith))
+    bytes-apart first (toggleOf first 1 .state) (fresh-fits (oneBit false)) (call-fits first (fresh-fits (oneBit false))
+    (ask-toggle 1) (omega arith))
     (λ (d : Display). d .errors) (λ (z : 0 ≡ 1). omega arith)
     (pair-is .1 (tied-meets toggle-door-tie m) .1 ∙ state-held _ first fresh-held (λ d. toggleOf d 1))
 
@@ -200,7 +203,8 @@ put-run-door-untouched t n m =
 
 pub write-run-door-untouched : (n : ℕ) → Meets writeRunDoor (stateBytes first, oneWrite) (done, stateBytes first, n) → ⊥
 write-run-door-untouched n m =
-    bytes-apart first (writeOf first 0 1 .state) (fresh-fits oneBit) (call-fits first (fresh-fits oneBit) (ask-write 0 1) (omega arith))
+    bytes-apart first (writeOf first 0 1 .state) (fresh-fits (oneBit false)) (call-fits first (fresh-fits (oneBit false))
+    (ask-write 0 1) (omega arith))
     (λ (d : Display). getD (d .pending) 0 0) (λ (z : 0 ≡ 1). omega arith)
     (triple-is .1 (tied-meets write-run-door-tie m) .1 .0
     ∙ state-held _ first fresh-held (λ d. toldBy (writeRunOf d oneWrite))
@@ -226,23 +230,23 @@ module _ (a : ℕ) (s : List ℕ) (n : ℕ) (miscounted : n ≡ 1 → ⊥) where
 -- ---- what a door of painting leaves is what is promised of the display's call
 
 paints : (pictures out : List ℕ) (a : ℕ) (s : List ℕ)
-    → Meets paintDoor (stateBytes (started grey), 0, 8, blank, pictures, filled) (a, s, out) → out ≡ painted pictures
+    → Meets paintDoor (stateBytes (started grey), 0, 8, blank, pictures, [], filled) (a, s, out) → out ≡ painted pictures
 paints pictures out a s m =
     triple-is .1 (tied-meets paint-door-tie m) .1 .1
-    ∙ buffer-held _ (started grey) (started-held grey (omega arith)) (λ d. paintBytes d 0 8 blank pictures filled)
+    ∙ buffer-held _ (started grey) (started-held grey (omega arith)) (λ d. paintBytes d 0 8 blank pictures [] filled)
     filled
 
 frames : (pictures out : List ℕ) (a : ℕ) (s : List ℕ)
-    → Meets frameDoor (stateBytes (started grey), blank, pictures, filled) (a, s, out) → out ≡ framed pictures
+    → Meets frameDoor (stateBytes (started grey), blank, pictures, [], filled) (a, s, out) → out ≡ framed pictures
 frames pictures out a s m =
     triple-is .1 (tied-meets frame-door-tie m) .1 .1
-    ∙ buffer-held _ (started grey) (started-held grey (omega arith)) (λ d. frameBytes d blank pictures filled) filled
+    ∙ buffer-held _ (started grey) (started-held grey (omega arith)) (λ d. frameBytes d blank pictures [] filled) filled
 
 lines : (pictures out : List ℕ) (a : ℕ) (s : List ℕ)
-    → Meets lineDoor (stateBytes (started grey), 0, blank, pictures, filled) (a, s, out) → out ≡ lined pictures
+    → Meets lineDoor (stateBytes (started grey), 0, blank, pictures, [], filled) (a, s, out) → out ≡ lined pictures
 lines pictures out a s m =
     triple-is .1 (tied-meets line-door-tie m) .1 .1
-    ∙ buffer-held _ (started grey) (started-held grey (omega arith)) (λ d. lineBytes d 0 blank pictures filled) filled
+    ∙ buffer-held _ (started grey) (started-held grey (omega arith)) (λ d. lineBytes d 0 blank pictures [] filled) filled
 
 module _ (a : ℕ) (s : List ℕ) where
   pub fill-door-untouched : Meets fillDoor (stateBytes (started night), filled) (a, s, filled) → ⊥
@@ -252,35 +256,35 @@ module _ (a : ℕ) (s : List ℕ) where
       ∙ buffer-held _ (started night) (started-held night (omega arith)) (λ d. fillBytes d filled) filled
       ∙ small.night-fill)
 
-  pub paint-door-untouched : Meets paintDoor (stateBytes (started grey), 0, 8, blank, white, filled) (a, s, filled) → ⊥
+  pub paint-door-untouched : Meets paintDoor (stateBytes (started grey), 0, 8, blank, white, [], filled) (a, s, filled) → ⊥
   paint-door-untouched m =
       differ 0 (λ (z : 100 ≡ 255). omega arith) (paints white filled a s m ∙ small.white-promised .paint)
 
-  pub frame-door-untouched : Meets frameDoor (stateBytes (started grey), blank, white, filled) (a, s, filled) → ⊥
+  pub frame-door-untouched : Meets frameDoor (stateBytes (started grey), blank, white, [], filled) (a, s, filled) → ⊥
   frame-door-untouched m =
       differ 0 (λ (z : 100 ≡ 255). omega arith) (frames white filled a s m ∙ small.white-promised .frame)
 
-  pub line-door-untouched : Meets lineDoor (stateBytes (started grey), 0, blank, white, filled) (a, s, filled) → ⊥
+  pub line-door-untouched : Meets lineDoor (stateBytes (started grey), 0, blank, white, [], filled) (a, s, filled) → ⊥
   line-door-untouched m =
       differ 0 (λ (z : 100 ≡ 255). omega arith) (lines white filled a s m ∙ small.white-promised .scan)
 
   -- ---- "one that gives one fixed frame": it does not meet the contract on both of two inputs
 
   module _ (b : ℕ) (u fixed : List ℕ) where
-    pub paint-door-fixed : Meets paintDoor (stateBytes (started grey), 0, 8, blank, white, filled) (a, s, fixed)
-        → Meets paintDoor (stateBytes (started grey), 0, 8, blank, clear, filled) (b, u, fixed) → ⊥
+    pub paint-door-fixed : Meets paintDoor (stateBytes (started grey), 0, 8, blank, white, [], filled) (a, s, fixed)
+        → Meets paintDoor (stateBytes (started grey), 0, 8, blank, clear, [], filled) (b, u, fixed) → ⊥
     paint-door-fixed m n =
         one-frame (small.white-promised .paint) (small.clear-promised .paint) (paints white fixed a s m)
         (paints clear fixed b u n)
 
-    pub frame-door-fixed : Meets frameDoor (stateBytes (started grey), blank, white, filled) (a, s, fixed)
-        → Meets frameDoor (stateBytes (started grey), blank, clear, filled) (b, u, fixed) → ⊥
+    pub frame-door-fixed : Meets frameDoor (stateBytes (started grey), blank, white, [], filled) (a, s, fixed)
+        → Meets frameDoor (stateBytes (started grey), blank, clear, [], filled) (b, u, fixed) → ⊥
     frame-door-fixed m n =
         one-frame (small.white-promised .frame) (small.clear-promised .frame) (frames white fixed a s m)
         (frames clear fixed b u n)
 
-    pub line-door-fixed : Meets lineDoor (stateBytes (started grey), 0, blank, white, filled) (a, s, fixed)
-        → Meets lineDoor (stateBytes (started grey), 0, blank, clear, filled) (b, u, fixed) → ⊥
+    pub line-door-fixed : Meets lineDoor (stateBytes (started grey), 0, blank, white, [], filled) (a, s, fixed)
+        → Meets lineDoor (stateBytes (started grey), 0, blank, clear, [], filled) (b, u, fixed) → ⊥
     line-door-fixed m n =
         one-frame (small.white-promised .scan) (small.clear-promised .scan) (lines white fixed a s m)
         (lines clear fixed b u n)
@@ -289,9 +293,9 @@ module _ (a : ℕ) (s : List ℕ) where
 
   -- what a rule gives meets none of the doors' contracts, with the white picture
   pub record DoorsBreak (rule : Rule) : Type 0 where
-    pub paint : Meets paintDoor (stateBytes (started grey), 0, 8, blank, white, filled) (a, s, paintBy rule white) → ⊥
-    pub frame : Meets frameDoor (stateBytes (started grey), blank, white, filled) (a, s, frameBy rule white) → ⊥
-    pub line : Meets lineDoor (stateBytes (started grey), 0, blank, white, filled) (a, s, frameBy rule white) → ⊥
+    pub paint : Meets paintDoor (stateBytes (started grey), 0, 8, blank, white, [], filled) (a, s, paintBy rule white) → ⊥
+    pub frame : Meets frameDoor (stateBytes (started grey), blank, white, [], filled) (a, s, frameBy rule white) → ⊥
+    pub line : Meets lineDoor (stateBytes (started grey), 0, blank, white, [], filled) (a, s, frameBy rule white) → ⊥
 
   breaks : (rule : Rule) {x : List ℕ} → frameBy rule white ≡ x → (x ≡ 255 ∷ 255 ∷ 255 ∷ 255 ∷ [] → ⊥) → DoorsBreak rule
   unfolding small.frameOpen
@@ -315,9 +319,9 @@ module _ (a : ℕ) (s : List ℕ) where
 -- contract on both
 
 module _ (a b : ℕ) (s u : List ℕ) (last : ℕ → ℕ → ℕ → ℕ) where
-  pub paint-door-ground-last : Meets paintDoor (stateBytes (started grey), 0, 8, blank, dim, filled)
+  pub paint-door-ground-last : Meets paintDoor (stateBytes (started grey), 0, 8, blank, dim, [], filled)
       (a, s, paintBy (groundLast last) dim)
-      → Meets paintDoor (stateBytes (started grey), 0, 8, blank, bright, filled)
+      → Meets paintDoor (stateBytes (started grey), 0, 8, blank, bright, [], filled)
       (b, u, paintBy (groundLast last) bright) → ⊥
   unfolding small.frameOpen
   paint-door-ground-last m n =
@@ -325,17 +329,17 @@ module _ (a b : ℕ) (s u : List ℕ) (last : ℕ → ℕ → ℕ → ℕ) where
       (same-frame last ∙ paints dim (paintBy (groundLast last) dim) a s m)
       (paints bright (paintBy (groundLast last) bright) b u n)
 
-  pub frame-door-ground-last : Meets frameDoor (stateBytes (started grey), blank, dim, filled)
+  pub frame-door-ground-last : Meets frameDoor (stateBytes (started grey), blank, dim, [], filled)
       (a, s, frameBy (groundLast last) dim)
-      → Meets frameDoor (stateBytes (started grey), blank, bright, filled) (b, u, frameBy (groundLast last) bright) → ⊥
+      → Meets frameDoor (stateBytes (started grey), blank, bright, [], filled) (b, u, frameBy (groundLast last) bright) → ⊥
   frame-door-ground-last m n =
       dim-bright last (small.dim-promised .frame) (small.bright-promised .frame)
       (same-frame last ∙ frames dim (frameBy (groundLast last) dim) a s m)
       (frames bright (frameBy (groundLast last) bright) b u n)
 
-  pub line-door-ground-last : Meets lineDoor (stateBytes (started grey), 0, blank, dim, filled)
+  pub line-door-ground-last : Meets lineDoor (stateBytes (started grey), 0, blank, dim, [], filled)
       (a, s, frameBy (groundLast last) dim)
-      → Meets lineDoor (stateBytes (started grey), 0, blank, bright, filled) (b, u, frameBy (groundLast last) bright) → ⊥
+      → Meets lineDoor (stateBytes (started grey), 0, blank, bright, [], filled) (b, u, frameBy (groundLast last) bright) → ⊥
   line-door-ground-last m n =
       dim-bright last (small.dim-promised .scan) (small.bright-promised .scan)
       (same-frame last ∙ lines dim (frameBy (groundLast last) dim) a s m)

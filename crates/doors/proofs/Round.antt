@@ -3,7 +3,7 @@
 use mathlib.Core.Path.{_≡_, refl, sym, ap, ap₂, _∙_}
 use mathlib.Core.Bool.{Bool, true, false}
 use mathlib.Core.List.{List, [], _∷_}
-use Prim.Native.Nat.{ℕ, _+_, _*_, _%_, _^_, _<_}
+use Prim.Native.Nat.{ℕ, _+_, _*_, _/_, _%_, _^_, _<_}
 use native.Mathlib.Omega.{arith}
 use borrow.Author.Tests.{eq-eqb}
 use lib.Dec.{ltb, eqb}
@@ -14,16 +14,16 @@ use Rattle.lists.specs.Bytes.{littleByte, littleBytes}
 use Rattle.lists.specs.Tab.{tab}
 use Rattle.lists.proofs.Tab.{length-tab}
 use Rattle.lists.proofs.Little.{word-back}
+use Rattle.profiles.specs.declared.Profile.{Profile}
 use Rattle.profiles.specs.Profile.{profileOf, oneBit}
 use Rattle.words.proofs.ImageLaws.{words-back}
 use Rattle.order.specs.Layout.{noLayers}
 use Rattle.display.specs.declared.Display.{Display}
 use Rattle.display.specs.declared.Told.{Told}
-use Rattle.display.specs.State.{display, selectionOf}
+use Rattle.display.specs.State.{display, selectionOf, fresh}
 use Rattle.display.specs.Doors.{stateLen, takenOf, lastWords, stateWords, stateBytes, doorAnswer, doorState}
-use Rattle.display.specs.Doors.{doorBuffer, doorRead}
+use Rattle.display.specs.Doors.{choicesOf, doorBuffer, doorRead}
 use Rattle.display.proofs.DoorLaws.{bare-all, taken-all, in-pending, in-active, in-last}
-use Rattle.laws.specs.Small.{first}
 use Rattle.doors.specs.Rows.{Fits, Holds, Ask, Typed, AllTyped, tellsOf, lentTo, leftBy, countBy}
 use Rattle.doors.specs.Rows.{Seen, seenOf}
 use Rattle.doors.specs.Rows.{stateAfter, seenAfter, bytesAfter, seenByC}
@@ -35,13 +35,30 @@ flag-back : (b : Bool) → b ≡ ltb 0 (pick b 1 0)
 flag-back true = refl
 flag-back false = refl
 
-choice-back : (b : Bool) → b ≡ eqb (pick b 1 0 % 2) 1
-choice-back true = refl
-choice-back false = refl
+choice-back : (p : Profile) → p ≡ profileOf (eqb (choicesOf p % 2) 1) (eqb (choicesOf p / 2 % 2) 0)
+unfolding choicesOf
+choice-back p = go (p .soft) (p .floats)
+  where
+    go : (b c : Bool)
+        → profileOf b c ≡ profileOf (eqb ((pick b 1 0 + pick c 0 2) % 2) 1) (eqb ((pick b 1 0 + pick c 0 2) / 2 % 2) 0)
+    go true true = refl
+    go true false = refl
+    go false true = refl
+    go false false = refl
 
 flag-fits : (b : Bool) → pick b 1 0 < 2 ^ 32
 flag-fits true = omega arith
 flag-fits false = omega arith
+
+choice-fits : (p : Profile) → choicesOf p < 2 ^ 32
+unfolding choicesOf
+choice-fits p = go (p .soft) (p .floats)
+  where
+    go : (b c : Bool) → pick b 1 0 + pick c 0 2 < 2 ^ 32
+    go true true = omega arith
+    go true false = omega arith
+    go false true = omega arith
+    go false false = omega arith
 
 pub taken-back : (d : Display) → Fits d → takenOf (stateBytes d) ≡ d
 unfolding stateBytes lastWords
@@ -52,7 +69,7 @@ taken-back d f =
     = λ i o v at b e h. e ∙ sym (word-back w (104 + i) 440 o (omega arith) (omega arith) (rw (← e) h)) in
     let r = in-last d (f .pending) (f .active) in
     sym (taken-all (stateBytes d) _ (d .layout) (bare-all (stateBytes d) (d .pending) (d .active) (d .frame) (d .errors)
-    (pick (d .selection .made) 1 0) (d .selection .number) (d .selection .place) (pick (d .profile .soft) 1 0) noLayers
+    (pick (d .selection .made) 1 0) (d .selection .number) (d .selection .place) (choicesOf (d .profile)) noLayers
     (words-back w (d .pending) 0 440 0 refl (omega arith) (f .pending) (f .pending-words)
     (λ i h. in-pending d (f .pending) i h ∙ ap (λ (n : ℕ). getD w n 0) (let q : i ≡ 0 + i = omega arith in q)))
     (words-back w (d .active) 52 440 208 refl (omega arith) (f .active) (f .active-words)
@@ -62,22 +79,22 @@ taken-back d f =
     (one 2 424 (pick (d .selection .made) 1 0) refl (omega arith) (r 2) (flag-fits (d .selection .made)))
     (one 3 428 (d .selection .number) refl (omega arith) (r 3) (f .number))
     (one 4 432 (d .selection .place) refl (omega arith) (r 4) (f .place))
-    (one 5 436 (pick (d .profile .soft) 1 0) refl (omega arith) (r 5) (flag-fits (d .profile .soft))) refl) (f .arranged))
-    ∙ ap₂ (λ (b c : Bool). display (d .pending) (d .active) (d .frame) (d .errors)
-    (selectionOf b (d .selection .number) (d .selection .place)) (profileOf c) (d .layout))
-    (sym (flag-back (d .selection .made))) (sym (choice-back (d .profile .soft)))
+    (one 5 436 (choicesOf (d .profile)) refl (omega arith) (r 5) (choice-fits (d .profile))) refl) (f .arranged))
+    ∙ ap₂ (λ (b : Bool) (p : Profile). display (d .pending) (d .active) (d .frame) (d .errors)
+    (selectionOf b (d .selection .number) (d .selection .place)) p (d .layout))
+    (sym (flag-back (d .selection .made))) (sym (choice-back (d .profile)))
 
 pub length-bytes : (d : Display) → length (stateBytes d) ≡ stateLen
 unfolding stateBytes
 length-bytes d = length-tab stateLen (littleBytes (stateWords d))
 
--- zeros are the fresh state of one bit a glyph pixel
-pub bytes-fresh : stateBytes first ≡ replicate stateLen 0
-unfolding stateBytes stateWords lastWords littleBytes littleByte tab
+-- zeros are the fresh state of one bit a glyph pixel that lets float layers in
+pub bytes-fresh : stateBytes (fresh (oneBit true)) ≡ replicate stateLen 0
+unfolding stateBytes stateWords lastWords choicesOf littleBytes littleByte tab
 bytes-fresh = refl
 
-pub holds-fresh : Holds (replicate stateLen 0) first
-holds-fresh = record { bytes = sym bytes-fresh; fits = fresh-fits oneBit }
+pub holds-fresh : Holds (replicate stateLen 0) (fresh (oneBit true))
+holds-fresh = record { bytes = sym bytes-fresh; fits = fresh-fits (oneBit true) }
 
 -- ---- a door of a state that is held
 

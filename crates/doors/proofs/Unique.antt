@@ -3,7 +3,9 @@
 -- in `display/src/doors.rt`. An outcome is the answer and every byte of the state and of the buffer that the
 -- call writes. Assumes nothing.
 use Prim.Native.Nat.{ℕ}
+use mathlib.Core.Bool.{true}
 use mathlib.Core.List.{List}
+use lib.Ieee.{Float}
 use denote.Ref.{now}
 use Rattle.lists.specs.Call.{Call, callOf, Tied, OneOutcome}
 use Rattle.lists.proofs.Call.{itself, pair-is, triple-is, quadruple-is, tied-unique}
@@ -36,7 +38,7 @@ use Rattle.display.proofs.doors.spoonwing_display_output_height.Reads as output
 abbrev pub newDoor : Call (List ℕ × ℕ) (ℕ × List ℕ)
 newDoor = callOf new.Post (λ κs i. (now (i .0), i .1 .0)) (λ κs a e. (a, now (e .0)))
 
-pub new-door-tie : Tied newDoor (λ x. (doorAnswer (x .0) (λ d. newOf (x .1)), doorState (x .0) (λ d. newOf (x .1))))
+pub new-door-tie : Tied newDoor (λ x. (doorAnswer (x .0) (λ d. newOf (x .1) true), doorState (x .0) (λ d. newOf (x .1) true)))
 new-door-tie = record { is = λ κs i a e. pair-is }
 
 pub new-door-unique : OneOutcome newDoor
@@ -164,8 +166,8 @@ fill-door-tie = record { is = λ κs i a e. triple-is }
 pub fill-door-unique : OneOutcome fillDoor
 fill-door-unique = tied-unique fill-door-tie
 
--- the state, a band's ends, tables, pictures and output
-abbrev pub paintDoor : Call (List ℕ × ℕ × ℕ × List ℕ × List ℕ × List ℕ) (ℕ × List ℕ × List ℕ)
+-- the state, a band's ends, tables, pictures, floats and output
+abbrev pub paintDoor : Call (List ℕ × ℕ × ℕ × List ℕ × List ℕ × List Float × List ℕ) (ℕ × List ℕ × List ℕ)
 paintDoor =
     callOf paint.Post (λ κs i. (
       now (i .0),
@@ -173,50 +175,57 @@ paintDoor =
       i .1 .1 .0,
       now (i .1 .1 .1 .0),
       now (i .1 .1 .1 .1 .0),
-      now
-          (i .1 .1 .1 .1 .1 .0),
+      now (i .1 .1 .1 .1 .1 .0),
+      now (i .1 .1 .1 .1 .1 .1 .0),
     ))
-    (λ κs a e. (a, now (e .0), now (e .1 .1 .1 .1 .1 .0)))
+    (λ κs a e. (a, now (e .0), now (e .1 .1 .1 .1 .1 .1 .0)))
 
 pub paint-door-tie : Tied paintDoor
     (λ x. (
-      doorAnswer (x .0) (λ d. paintTold d (x .1) (x .2) (x .3) (x .4) (x .5)),
-      doorState (x .0) (λ d. paintTold d (x .1) (x .2) (x .3) (x .4) (x .5)),
-      doorBuffer (x .0) (λ d. paintBytes d (x .1) (x .2) (x .3) (x .4) (x .5)) (x .5),
+      doorAnswer (x .0) (λ d. paintTold d (x .1) (x .2) (x .3) (x .4) (x .5) (x .6)),
+      doorState (x .0) (λ d. paintTold d (x .1) (x .2) (x .3) (x .4) (x .5) (x .6)),
+      doorBuffer (x .0) (λ d. paintBytes d (x .1) (x .2) (x .3) (x .4) (x .5) (x .6)) (x .6),
     ))
 paint-door-tie = record { is = λ κs i a e. triple-is }
 
 pub paint-door-unique : OneOutcome paintDoor
 paint-door-unique = tied-unique paint-door-tie
 
--- the state, tables, pictures and output
-abbrev pub frameDoor : Call (List ℕ × List ℕ × List ℕ × List ℕ) (ℕ × List ℕ × List ℕ)
+-- the state, tables, pictures, floats and output
+abbrev pub frameDoor : Call (List ℕ × List ℕ × List ℕ × List Float × List ℕ) (ℕ × List ℕ × List ℕ)
 frameDoor =
-    callOf frame.Post (λ κs i. (now (i .0), now (i .1 .0), now (i .1 .1 .0), now (i .1 .1 .1 .0)))
-    (λ κs a e. (a, now (e .0), now (e .1 .1 .1 .0)))
+    callOf frame.Post
+    (λ κs i. (now (i .0), now (i .1 .0), now (i .1 .1 .0), now (i .1 .1 .1 .0), now (i .1 .1 .1 .1 .0)))
+    (λ κs a e. (a, now (e .0), now (e .1 .1 .1 .1 .0)))
 
 pub frame-door-tie : Tied frameDoor
     (λ x. (
-      doorAnswer (x .0) (λ d. frameTold d (x .1) (x .2) (x .3)),
-      doorState (x .0) (λ d. frameTold d (x .1) (x .2) (x .3)),
-      doorBuffer (x .0) (λ d. frameBytes d (x .1) (x .2) (x .3)) (x .3),
+      doorAnswer (x .0) (λ d. frameTold d (x .1) (x .2) (x .3) (x .4)),
+      doorState (x .0) (λ d. frameTold d (x .1) (x .2) (x .3) (x .4)),
+      doorBuffer (x .0) (λ d. frameBytes d (x .1) (x .2) (x .3) (x .4)) (x .4),
     ))
 frame-door-tie = record { is = λ κs i a e. triple-is }
 
 pub frame-door-unique : OneOutcome frameDoor
 frame-door-unique = tied-unique frame-door-tie
 
-abbrev pub lineDoor : Call (List ℕ × ℕ × List ℕ × List ℕ × List ℕ) (ℕ × List ℕ × List ℕ)
+abbrev pub lineDoor : Call (List ℕ × ℕ × List ℕ × List ℕ × List Float × List ℕ) (ℕ × List ℕ × List ℕ)
 lineDoor =
-    callOf line.Post
-    (λ κs i. (now (i .0), i .1 .0, now (i .1 .1 .0), now (i .1 .1 .1 .0), now (i .1 .1 .1 .1 .0)))
-    (λ κs a e. (a, now (e .0), now (e .1 .1 .1 .1 .0)))
+    callOf line.Post (λ κs i. (
+      now (i .0),
+      i .1 .0,
+      now (i .1 .1 .0),
+      now (i .1 .1 .1 .0),
+      now (i .1 .1 .1 .1 .0),
+      now (i .1 .1 .1 .1 .1 .0),
+    ))
+    (λ κs a e. (a, now (e .0), now (e .1 .1 .1 .1 .1 .0)))
 
 pub line-door-tie : Tied lineDoor
     (λ x. (
-      doorAnswer (x .0) (λ d. lineTold d (x .1) (x .2) (x .3) (x .4)),
-      doorState (x .0) (λ d. lineTold d (x .1) (x .2) (x .3) (x .4)),
-      doorBuffer (x .0) (λ d. lineBytes d (x .1) (x .2) (x .3) (x .4)) (x .4),
+      doorAnswer (x .0) (λ d. lineTold d (x .1) (x .2) (x .3) (x .4) (x .5)),
+      doorState (x .0) (λ d. lineTold d (x .1) (x .2) (x .3) (x .4) (x .5)),
+      doorBuffer (x .0) (λ d. lineBytes d (x .1) (x .2) (x .3) (x .4) (x .5)) (x .5),
     ))
 line-door-tie = record { is = λ κs i a e. triple-is }
 

@@ -1,7 +1,9 @@
 -- Calls in a row on one lent state, by C through the doors and by Rattle on a display. Assumes nothing.
 use Prim.Native.Nat.{ℕ, _^_, _<_}
 use mathlib.Core.Path.{_≡_}
+use mathlib.Core.Bool.{true}
 use mathlib.Core.List.{List, [], _∷_}
+use lib.Ieee.{Float}
 use lib.ListN.{length, getD}
 use Rattle.display.specs.declared.Display.{Display}
 use Rattle.display.specs.declared.Told.{Told}
@@ -48,9 +50,9 @@ pub data Ask : Type 0 where
   ask-put-run : (tables run : List ℕ) → Ask
   ask-write-run : (run : List ℕ) → Ask
   ask-fill : (out : List ℕ) → Ask
-  ask-paint : (low high : ℕ) (tables pictures out : List ℕ) → Ask
-  ask-frame : (tables pictures out : List ℕ) → Ask
-  ask-line : (y : ℕ) (tables pictures out : List ℕ) → Ask
+  ask-paint : (low high : ℕ) (tables pictures : List ℕ) (floats : List Float) (out : List ℕ) → Ask
+  ask-frame : (tables pictures : List ℕ) (floats : List Float) (out : List ℕ) → Ask
+  ask-line : (y : ℕ) (tables pictures : List ℕ) (floats : List Float) (out : List ℕ) → Ask
 
 -- numbers that become a part of the state have 32 bits, and bytes that do 8, as their types have it
 abbrev pub Typed : Ask → Type 0
@@ -63,13 +65,13 @@ Typed ask-start = Unit {0}
 Typed (ask-put tables byte) = Unit {0}
 Typed (ask-put-run tables run) = Unit {0}
 Typed (ask-fill out) = Unit {0}
-Typed (ask-paint low high tables pictures out) = Unit {0}
-Typed (ask-frame tables pictures out) = Unit {0}
-Typed (ask-line y tables pictures out) = Unit {0}
+Typed (ask-paint low high tables pictures floats out) = Unit {0}
+Typed (ask-frame tables pictures floats out) = Unit {0}
+Typed (ask-line y tables pictures floats out) = Unit {0}
 
 -- what the display's call answers and leaves of the state
 abbrev pub tellsOf : Ask → Display → Told
-tellsOf (ask-new bits) d = newOf bits
+tellsOf (ask-new bits) d = newOf bits true
 tellsOf (ask-write register value) d = writeOf d register value
 tellsOf (ask-select selection) d = selectOf d selection
 tellsOf (ask-toggle bits) d = toggleOf d bits
@@ -78,9 +80,9 @@ tellsOf (ask-put tables byte) d = putOf d tables
 tellsOf (ask-put-run tables run) d = toldBy (putRunOf d tables run)
 tellsOf (ask-write-run run) d = toldBy (writeRunOf d run)
 tellsOf (ask-fill out) d = fillTold d out
-tellsOf (ask-paint low high tables pictures out) d = paintTold d low high tables pictures out
-tellsOf (ask-frame tables pictures out) d = frameTold d tables pictures out
-tellsOf (ask-line y tables pictures out) d = lineTold d y tables pictures out
+tellsOf (ask-paint low high tables pictures floats out) d = paintTold d low high tables pictures floats out
+tellsOf (ask-frame tables pictures floats out) d = frameTold d tables pictures floats out
+tellsOf (ask-line y tables pictures floats out) d = lineTold d y tables pictures floats out
 
 -- the buffer that it writes, as it is lent; none is an empty one
 abbrev pub lentTo : Ask → List ℕ
@@ -93,9 +95,9 @@ lentTo (ask-put tables byte) = tables
 lentTo (ask-put-run tables run) = tables
 lentTo (ask-write-run run) = []
 lentTo (ask-fill out) = out
-lentTo (ask-paint low high tables pictures out) = out
-lentTo (ask-frame tables pictures out) = out
-lentTo (ask-line y tables pictures out) = out
+lentTo (ask-paint low high tables pictures floats out) = out
+lentTo (ask-frame tables pictures floats out) = out
+lentTo (ask-line y tables pictures floats out) = out
 
 -- and as the call leaves it
 abbrev pub leftBy : Ask → Display → List ℕ
@@ -108,9 +110,9 @@ leftBy (ask-put tables byte) d = putTables d tables byte
 leftBy (ask-put-run tables run) d = putRunTables d tables run
 leftBy (ask-write-run run) d = []
 leftBy (ask-fill out) d = fillBytes d out
-leftBy (ask-paint low high tables pictures out) d = paintBytes d low high tables pictures out
-leftBy (ask-frame tables pictures out) d = frameBytes d tables pictures out
-leftBy (ask-line y tables pictures out) d = lineBytes d y tables pictures out
+leftBy (ask-paint low high tables pictures floats out) d = paintBytes d low high tables pictures floats out
+leftBy (ask-frame tables pictures floats out) d = frameBytes d tables pictures floats out
+leftBy (ask-line y tables pictures floats out) d = lineBytes d y tables pictures floats out
 
 -- how many items it tells that it has done; 0 where it tells none
 abbrev pub countBy : Ask → Display → ℕ
@@ -123,9 +125,9 @@ countBy (ask-toggle bits) d = 0
 countBy ask-start d = 0
 countBy (ask-put tables byte) d = 0
 countBy (ask-fill out) d = 0
-countBy (ask-paint low high tables pictures out) d = 0
-countBy (ask-frame tables pictures out) d = 0
-countBy (ask-line y tables pictures out) d = 0
+countBy (ask-paint low high tables pictures floats out) d = 0
+countBy (ask-frame tables pictures floats out) d = 0
+countBy (ask-line y tables pictures floats out) d = 0
 
 -- ---- a row of calls
 

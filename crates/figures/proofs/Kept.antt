@@ -2,7 +2,9 @@
 -- the call promises. Assumes nothing.
 use Prim.Native.Nat.{ℕ}
 use mathlib.Core.Path.{_≡_}
+use mathlib.Core.Bool.{Bool}
 use mathlib.Core.List.{List}
+use lib.Ieee.{Float}
 use borrow.Author.Needs.{needs}
 use Rattle.display.specs.declared.Display.{Display}
 use Rattle.display.specs.declared.Told.{Told}
@@ -16,8 +18,8 @@ use Rattle.display.proofs.Arranged.{new-arranged, write-arranged, select-arrang
 use Rattle.display.proofs.Arranged.{put-arranged, put-run-arranged, write-run-arranged, fill-arranged}
 use Rattle.display.proofs.Arranged.{paint-arranged, frame-arranged, line-arranged}
 
-pub new-kept : (t : Told) (bits : ℕ) → t ≡ newOf bits → Arranged (t .state)
-new-kept t bits e = rw e (new-arranged bits)
+pub new-kept : (t : Told) (bits : ℕ) (floats : Bool) → t ≡ newOf bits floats → Arranged (t .state)
+new-kept t bits floats e = rw e (new-arranged bits floats)
 
 module _ (d : Display) (a : Arranged d) (t : Told) where
   pub write-kept : (register value : ℕ) → t ≡ writeOf d register value → Arranged (t .state)
@@ -38,15 +40,17 @@ module _ (d : Display) (a : Arranged d) (t : Told) where
   pub fill-kept : (out : List ℕ) → t ≡ fillTold d out → Arranged (t .state)
   fill-kept out e = rw e (fill-arranged d a out)
 
-  pub paint-kept : (low high : ℕ) (tables pictures out : List ℕ)
-      → t ≡ paintTold d low high tables pictures out → Arranged (t .state)
-  paint-kept low high tables pictures out e = rw e (paint-arranged d a low high tables pictures out)
+  pub paint-kept : (low high : ℕ) (tables pictures : List ℕ) (floats : List Float) (out : List ℕ)
+      → t ≡ paintTold d low high tables pictures floats out → Arranged (t .state)
+  paint-kept low high tables pictures floats out e = rw e (paint-arranged d a low high tables pictures floats out)
 
-  pub frame-kept : (tables pictures out : List ℕ) → t ≡ frameTold d tables pictures out → Arranged (t .state)
-  frame-kept tables pictures out e = rw e (frame-arranged d a tables pictures out)
+  pub frame-kept : (tables pictures : List ℕ) (floats : List Float) (out : List ℕ)
+      → t ≡ frameTold d tables pictures floats out → Arranged (t .state)
+  frame-kept tables pictures floats out e = rw e (frame-arranged d a tables pictures floats out)
 
-  pub line-kept : (y : ℕ) (tables pictures out : List ℕ) → t ≡ lineTold d y tables pictures out → Arranged (t .state)
-  line-kept y tables pictures out e = rw e (line-arranged d a y tables pictures out)
+  pub line-kept : (y : ℕ) (tables pictures : List ℕ) (floats : List Float) (out : List ℕ)
+      → t ≡ lineTold d y tables pictures floats out → Arranged (t .state)
+  line-kept y tables pictures floats out e = rw e (line-arranged d a y tables pictures floats out)
 
 module _ (d : Display) (a : Arranged d) (r : Ran) where
   pub put-run-kept : (tables run : List ℕ) → r ≡ putRunOf d tables run → Arranged (r .state)

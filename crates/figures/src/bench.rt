@@ -79,9 +79,10 @@ fn start_box(state: Display) -> Display
 // A byte of the frame with the box. Channel 0 of a pixel is 7 where it is drawn.
 fn show_byte(name: &[u8], weight: u8, at: usize) {
     let mut tables = buffers::tables();
+    let none: [f32; 0] = [];
     let mut out = [0u8; 128];
     let loaded = load_box(screen(4 * 65536 + 8), &mut tables, weight);
-    start_box(loaded).frame(&tables, b"", &mut out);
+    start_box(loaded).frame(&tables, b"", &none, &mut out);
     figure(name, buffers::byte_at(&out, at) as u32);
 }
 
@@ -109,12 +110,13 @@ fn show_start() {
 // Frame layers of 3 by 2 and 1 by 1 pixels painted with that many picture bytes.
 fn paint_with(pictures: &[u8]) -> u8 {
     let tables = buffers::tables();
+    let none: [f32; 0] = [];
     let mut out = [0u8; 64];
     let a = written(screen(4 * 65536 + 4), 4, 1);
     let b = written(a, 7, 2 * 65536 + 3);
     let c = written(b, 10, 257);
     let d = written(c, 13, 65536 + 1);
-    let e = started(d).paint(0, 8, &tables, pictures, &mut out);
+    let e = started(d).paint(0, 8, &tables, pictures, &none, &mut out);
     e.answer
 }
 
@@ -126,7 +128,7 @@ fn show_pictures() {
 }
 
 fn show_toggle() {
-    let a = Display::new(1);
+    let a = Display::new(1, false);
     let b = a.state.toggle(17);
     figure(b"error word: ", b.state.error_word());
     let c = b.state.toggle(16);

@@ -76,9 +76,10 @@ fn painted(
     pictures: &mut [u8],
     out: &mut [u8],
 ) -> u32 {
+    let none: [f32; 0] = [];
     lay_over(pictures, alpha, mixed);
     lay_under(out);
-    layered(word).paint(0, 8, tables, pictures, out);
+    layered(word).paint(0, 8, tables, pictures, &none, out);
     checksum(out)
 }
 

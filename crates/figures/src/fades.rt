@@ -87,9 +87,10 @@ fn faded(state: Display, case: Case, length: u16) -> Display
 fn painted(state: Display, case: Case, length: u16, tables: &[u8]) -> u8
     requires { ⌜ Arranged state ⌝ }
 {
+    let none: [f32; 0] = [];
     let mut out = [0u8; 4];
     let s = faded(state, case, length);
-    s.paint(0, 8, tables, b"\xff\xff\xff\x00", &mut out);
+    s.paint(0, 8, tables, b"\xff\xff\xff\x00", &none, &mut out);
     out[0]
 }
 

@@ -15,6 +15,7 @@ fn main() {
     bench::show();
     let mut tables = buffers::roomy_tables();
     let mut pictures = buffers::pixels();
+    let mut floats = buffers::float_pixels();
     let mut out = buffers::pixels();
-    script::run(&mut tables, &mut pictures, &mut out);
+    script::run(&mut tables, &mut pictures, &mut floats, &mut out);
 }

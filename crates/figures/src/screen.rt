@@ -30,7 +30,7 @@ pub fn started(state: Display) -> Display
 pub fn screen(size: u32) -> Display
     ensures { λ r. ⌜ Arranged r ⌝ }
 {
-    let a = Display::new(1);
+    let a = Display::new(1, false);
     let b = written(a.state, 0, ON);
     written(b, 1, size)
 }

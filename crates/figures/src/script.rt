@@ -38,7 +38,14 @@ fn view(out: &[u8], at: u32) {
     print::end_line();
 }
 
-fn turn(s: Stage, text: &[u8; 20], tables: &mut [u8], pictures: &mut [u8], out: &mut [u8]) -> Stage
+fn turn(
+    s: Stage,
+    text: &[u8; 20],
+    tables: &mut [u8],
+    pictures: &mut [u8],
+    floats: &mut [f32],
+    out: &mut [u8],
+) -> Stage
     requires { ⌜ Arranged (s .state) ⌝ }
     ensures { λ r. ⌜ Arranged (r .state) ⌝ }
 {
@@ -58,7 +65,7 @@ fn turn(s: Stage, text: &[u8; 20], tables: &mut [u8], pictures: &mut [u8], out: 
             s
         }
         _ => {
-            let next = stage::play(s, r, tables, pictures, out);
+            let next = stage::play(s, r, tables, pictures, floats, out);
             show(letter, next, tables, out);
             next
         }
@@ -72,13 +79,13 @@ fn read(text: &mut [u8; 20]) -> bool {
 
 // Nothing says that the input ends, so the loop counts its turns down from a number that no run
 // uses up.
-pub fn run(tables: &mut [u8], pictures: &mut [u8], out: &mut [u8]) {
+pub fn run(tables: &mut [u8], pictures: &mut [u8], floats: &mut [f32], out: &mut [u8]) {
     let mut text = [0u8; 20];
     let mut turns = u64::MAX;
-    let mut s = stage::fresh(1);
+    let mut s = stage::fresh(1, false);
     let mut more = read(&mut text);
     while turns > 0 && more {
-        s = turn(s, &text, tables, pictures, out);
+        s = turn(s, &text, tables, pictures, floats, out);
         more = read(&mut text);
         turns -= 1;
     }

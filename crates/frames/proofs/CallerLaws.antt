@@ -20,20 +20,21 @@ use Rattle.tables.specs.Geometry.{tablesLen}
 use Rattle.frames.specs.Scene.{Scene}
 use Rattle.frames.specs.Pixel.{overAt}
 use Rattle.frames.specs.Band.{layerStep, bandBy, bandByte, bandOf, markAt, errorsOf}
-use Rattle.frames.specs.Frame.{bandRefusal, sizeRefusal, frameLen, outputRefusal, tablesRefusal, fillRefusal}
-use Rattle.frames.specs.Frame.{paintRefusal, refusalOf, fillByte, fillOf, fillAfter, paintAfter, errorsAfter}
+use Rattle.frames.specs.Frame.{bandRefusal, sizeRefusal, frameLen, outputRefusal, tablesRefusal, picturesRefusal}
+use Rattle.frames.specs.Frame.{fillRefusal, paintRefusal, refusalOf, fillByte, fillOf, fillAfter, paintAfter, errorsAfter}
 use Rattle.frames.specs.Frame.{frameOf, frameAfter}
 
 -- ---- what passes
 
 -- the words, the band and the lengths that paint takes
-pub record Fits (bits : ℕ) (w : List ℕ) (a b out tables pictures : ℕ) : Type 0 where
+pub record Fits (bits : ℕ) (w : List ℕ) (a b out tables pictures floats : ℕ) : Type 0 where
   pub low : a ≤ b
   pub high : b ≤ 8
   pub wide : 0 < widthOf w
   pub long : out ≡ frameLen w
   pub lent : tables ≡ tablesLen bits
-  pub shown : pictures ≡ picturesLen w
+  pub shown : pictures ≡ picturesLen false w
+  pub flows : floats ≡ picturesLen true w
 
 pub size-wide : (w : List ℕ) → sizeRefusal w ≡ 0 → 0 < widthOf w
 size-wide w e =
@@ -41,14 +42,15 @@ size-wide w e =
     → ⊥ = eqb-false (widthOf w) 0
     (either-left (eqb (widthOf w) 0) (eqb (heightOf w) 0) (refuses-not _ 11 0 e .0)) in omega arith
 
-pub paint-fits : (bits : ℕ) (w : List ℕ) (a b out tables pictures : ℕ)
-    → paintRefusal bits w a b out tables pictures ≡ 0 → Fits bits w a b out tables pictures
+pub paint-fits : (bits : ℕ) (w : List ℕ) (a b out tables pictures floats : ℕ)
+    → paintRefusal bits w a b out tables pictures floats ≡ 0 → Fits bits w a b out tables pictures floats
 unfolding paintRefusal
-paint-fits bits w a b out tables pictures e =
+paint-fits bits w a b out tables pictures floats e =
     let band = lets-through (both (leb a b) (leb b 8)) 14 (orElse-left (bandRefusal a b) _ e) in
     let p = orElse-right (bandRefusal a b) _ e in
     let q = orElse-right (sizeRefusal w) _ p in
     let r = orElse-right (outputRefusal w out) _ q in
+    let t = orElse-right (tablesRefusal bits tables) _ r in
     record {
       low = leb-true a b (both-left (leb a b) (leb b 8) band);
       high = leb-true b 8 (both-right (leb a b) (leb b 8) band);
@@ -56,7 +58,9 @@ paint-fits bits w a b out tables pictures e =
       long = eqb-true _ _ (lets-through (eqb out (frameLen w)) 12 (orElse-left (outputRefusal w out) _ q));
       lent = eqb-true _ _ (lets-through (eqb tables (tablesLen bits)) 5 (orElse-left (tablesRefusal bits tables) _ r));
       shown =
-          eqb-true _ _ (lets-through (eqb pictures (picturesLen w)) 13 (orElse-right (tablesRefusal bits tables) _ r));
+          eqb-true _ _ (lets-through (eqb pictures (picturesLen false w)) 13 (orElse-left (picturesRefusal w pictures) _ t));
+      flows =
+          eqb-true _ _ (lets-through (eqb floats (picturesLen true w)) 17 (orElse-right (picturesRefusal w pictures) _ t));
     }
 
 pub fill-long : (w : List ℕ) (out : ℕ) → fillRefusal w out ≡ 0 → out ≡ frameLen w
@@ -87,7 +91,7 @@ unfolding frameAfter
 length-frameAfter s out = go (eqb (refusalOf s 0 8 out) 0) (eqb-true _ _)
   where
     go : (t : Bool) → (t ≡ true → refusalOf s 0 8 out ≡ 0) → length (choose t (frameOf s) out) ≡ length out
-    go true f = length-frameOf s ∙ sym (paint-fits _ _ _ _ _ _ _ (f refl) .long)
+    go true f = length-frameOf s ∙ sym (paint-fits _ _ _ _ _ _ _ _ (f refl) .long)
     go false f = refl
 
 -- ---- alpha
@@ -140,10 +144,10 @@ layerStep-off w step d n p e = rw e
 
 -- ---- a frame is a fill and band 0..8
 
-paint-fill : (bits : ℕ) (w : List ℕ) (a b out tables pictures : ℕ)
-    → paintRefusal bits w a b out tables pictures ≡ 0 → fillRefusal w out ≡ 0
+paint-fill : (bits : ℕ) (w : List ℕ) (a b out tables pictures floats : ℕ)
+    → paintRefusal bits w a b out tables pictures floats ≡ 0 → fillRefusal w out ≡ 0
 unfolding paintRefusal fillRefusal
-paint-fill bits w a b out tables pictures e =
+paint-fill bits w a b out tables pictures floats e =
     let p = orElse-right (bandRefusal a b) _ e in
     let q = orElse-right (sizeRefusal w) _ p in
     orElse-none (sizeRefusal w) (outputRefusal w out) (orElse-left (sizeRefusal w) _ p)
@@ -152,13 +156,14 @@ paint-fill bits w a b out tables pictures e =
 module _ (s : Scene) (out : List ℕ) (e : refusalOf s 0 8 out ≡ 0) where
   pub fill-is : fillAfter (s .words) out ≡ fillOf (s .words)
   unfolding fillAfter
-  fill-is = rw (eq-eqb _ 0 (paint-fill _ _ _ _ _ _ _ e))
+  fill-is = rw (eq-eqb _ 0 (paint-fill _ _ _ _ _ _ _ _ e))
 
   -- the filled output is as long, so it passes as well
   again : refusalOf s 0 8 (fillOf (s .words)) ≡ 0
   again =
-      ap (λ (n : ℕ). paintRefusal (bitsOf (s .profile)) (s .words) 0 8 n (length (s .tables)) (length (s .pictures)))
-      (length-fillOf (s .words) ∙ sym (paint-fits _ _ _ _ _ _ _ e .long)) ∙ e
+      ap (λ (n : ℕ). paintRefusal (bitsOf (s .profile)) (s .words) 0 8 n (length (s .tables)) (length (s .pictures))
+      (length (s .floats)))
+      (length-fillOf (s .words) ∙ sym (paint-fits _ _ _ _ _ _ _ _ e .long)) ∙ e
 
   pub frameAfter-is : frameAfter s out ≡ paintAfter s 0 8 (fillAfter (s .words) out)
   unfolding frameAfter frameOf paintAfter

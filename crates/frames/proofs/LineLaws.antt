@@ -18,34 +18,38 @@ use Rattle.words.specs.Pictures.{picturesLen}
 use Rattle.tables.specs.Geometry.{tablesLen}
 use Rattle.frames.specs.Scene.{Scene}
 use Rattle.frames.specs.Band.{bandByte, bandOf}
-use Rattle.frames.specs.Frame.{sizeRefusal, frameLen, tablesRefusal, fillByte, fillOf, frameOf}
+use Rattle.frames.specs.Frame.{sizeRefusal, frameLen, tablesRefusal, picturesRefusal, fillByte, fillOf, frameOf}
 use Rattle.frames.specs.Line.{numberRefusal, lineLen, lengthRefusal, lineRefusal, frameLine}
 use Rattle.frames.proofs.CallerLaws.{size-wide, length-frameOf}
 
 -- ---- what passes
 
 -- the words, the line's number and the lengths that a line takes
-pub record LineFits (bits : ℕ) (w : List ℕ) (y out tables pictures : ℕ) : Type 0 where
+pub record LineFits (bits : ℕ) (w : List ℕ) (y out tables pictures floats : ℕ) : Type 0 where
   pub wide : 0 < widthOf w
   pub number : y < heightOf w
   pub long : out ≡ lineLen w
   pub lent : tables ≡ tablesLen bits
-  pub shown : pictures ≡ picturesLen w
+  pub shown : pictures ≡ picturesLen false w
+  pub flows : floats ≡ picturesLen true w
 
-pub line-fits : (bits : ℕ) (w : List ℕ) (y out tables pictures : ℕ)
-    → lineRefusal bits w y out tables pictures ≡ 0 → LineFits bits w y out tables pictures
+pub line-fits : (bits : ℕ) (w : List ℕ) (y out tables pictures floats : ℕ)
+    → lineRefusal bits w y out tables pictures floats ≡ 0 → LineFits bits w y out tables pictures floats
 unfolding lineRefusal
-line-fits bits w y out tables pictures e =
+line-fits bits w y out tables pictures floats e =
     let p = orElse-right (sizeRefusal w) _ e in
     let q = orElse-right (numberRefusal w y) _ p in
     let r = orElse-right (lengthRefusal w out) _ q in
+    let t = orElse-right (tablesRefusal bits tables) _ r in
     record {
       wide = size-wide w (orElse-left (sizeRefusal w) _ e);
       number = ltb-true _ _ (lets-through (ltb y (heightOf w)) 14 (orElse-left (numberRefusal w y) _ p));
       long = eqb-true _ _ (lets-through (eqb out (lineLen w)) 12 (orElse-left (lengthRefusal w out) _ q));
       lent = eqb-true _ _ (lets-through (eqb tables (tablesLen bits)) 5 (orElse-left (tablesRefusal bits tables) _ r));
       shown =
-          eqb-true _ _ (lets-through (eqb pictures (picturesLen w)) 13 (orElse-right (tablesRefusal bits tables) _ r));
+          eqb-true _ _ (lets-through (eqb pictures (picturesLen false w)) 13 (orElse-left (picturesRefusal w pictures) _ t));
+      flows =
+          eqb-true _ _ (lets-through (eqb floats (picturesLen true w)) 17 (orElse-right (picturesRefusal w pictures) _ t));
     }
 
 -- ---- a frame is its lines: line y begins at its pixel y * W

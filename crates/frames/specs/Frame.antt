@@ -1,11 +1,12 @@
 -- What fill, a band and a whole frame answer and leave: 01 "Painting", "Answers by number". Assumes nothing.
 use Prim.Native.Nat.{ℕ, _*_, _%_}
+use mathlib.Core.Bool.{true, false}
 use mathlib.Core.List.{List}
 use lib.ListN.{length}
 use lib.Dec.{eqb, leb}
 use Rattle.lists.specs.Choice.{pick, choose, both, either, orElse}
 use Rattle.lists.specs.Tab.{tab}
-use Rattle.answers.specs.Answers.{done, tablesLength, noSize, outputLength, picturesLength, noBand}
+use Rattle.answers.specs.Answers.{done, tablesLength, noSize, outputLength, picturesLength, noBand, floatsLength}
 use Rattle.mix.specs.Pixel.{pixelLen, alphaPlace, opaque}
 use Rattle.profiles.specs.Profile.{bitsOf}
 use Rattle.words.specs.Fields.{widthOf, heightOf, groundOf}
@@ -14,7 +15,8 @@ use Rattle.tables.specs.Geometry.{tablesLen}
 use Rattle.frames.specs.Scene.{Scene}
 use Rattle.frames.specs.Band.{bandOf, errorsOf}
 
--- ---- refusals: of the bits a glyph pixel has, the words, the band's ends, and the lengths of output, tables and pictures
+-- ---- refusals: of the bits a glyph pixel has, the words, the band's ends, and the lengths of output, tables, pictures and
+-- floats
 
 -- 15: "lower end above upper, or upper above 8"
 abbrev pub bandRefusal : ℕ → ℕ → ℕ
@@ -38,26 +40,32 @@ tablesRefusal bits tables = pick (eqb tables (tablesLen bits)) done tablesLength
 
 -- 14: "pictures of the wrong total length"
 abbrev pub picturesRefusal : List ℕ → ℕ → ℕ
-picturesRefusal w pictures = pick (eqb pictures (picturesLen w)) done picturesLength
+picturesRefusal w pictures = pick (eqb pictures (picturesLen false w)) done picturesLength
 
--- "6, 14", of what is lent to read
-abbrev pub lentRefusal : ℕ → List ℕ → ℕ → ℕ → ℕ
-lentRefusal bits w tables pictures = orElse (tablesRefusal bits tables) (picturesRefusal w pictures)
+-- 02 K7: "18 for a float buffer of the wrong total length"
+abbrev pub floatsRefusal : List ℕ → ℕ → ℕ
+floatsRefusal w floats = pick (eqb floats (picturesLen true w)) done floatsLength
+
+-- "6, 14", and 02 K7, 18: "after 14", of what is lent to read
+abbrev pub lentRefusal : ℕ → List ℕ → ℕ → ℕ → ℕ → ℕ
+lentRefusal bits w tables pictures floats =
+    orElse (tablesRefusal bits tables) (orElse (picturesRefusal w pictures) (floatsRefusal w floats))
 
 -- fill: 12, 13
 unfoldable pub fillRefusal : List ℕ → ℕ → ℕ
 fillRefusal w out = orElse (sizeRefusal w) (outputRefusal w out)
 
--- "Paint 15, 12, 13, 6, 14."
-unfoldable pub paintRefusal : ℕ → List ℕ → ℕ → ℕ → ℕ → ℕ → ℕ → ℕ
-paintRefusal bits w a b out tables pictures =
+-- "Paint 15, 12, 13, 6, 14.", and 18
+unfoldable pub paintRefusal : ℕ → List ℕ → ℕ → ℕ → ℕ → ℕ → ℕ → ℕ → ℕ
+paintRefusal bits w a b out tables pictures floats =
     orElse (bandRefusal a b)
-    (orElse (sizeRefusal w) (orElse (outputRefusal w out) (lentRefusal bits w tables pictures)))
+    (orElse (sizeRefusal w) (orElse (outputRefusal w out) (lentRefusal bits w tables pictures floats)))
 
 -- of a scene and an output
 abbrev pub refusalOf : Scene → ℕ → ℕ → List ℕ → ℕ
 refusalOf s a b out =
     paintRefusal (bitsOf (s .profile)) (s .words) a b (length out) (length (s .tables)) (length (s .pictures))
+    (length (s .floats))
 
 -- ---- fill: a refusal leaves "all unchanged"
 

@@ -12,7 +12,8 @@ use Rattle.frames.specs.Scene.{Scene}
 use Rattle.frames.specs.Band.{errorsOf}
 use Rattle.frames.specs.Frame.{sizeRefusal, lentRefusal, frameOf}
 
--- ---- refusals: of the bits a glyph pixel has, the words, the line's number, and the lengths of output, tables and pictures
+-- ---- refusals: of the bits a glyph pixel has, the words, the line's number, and the lengths of output, tables, pictures and
+-- floats
 
 -- "15 for a line number at or past the height"
 abbrev pub numberRefusal : List ℕ → ℕ → ℕ
@@ -26,16 +27,17 @@ lineLen w = pixelLen * widthOf w
 abbrev pub lengthRefusal : List ℕ → ℕ → ℕ
 lengthRefusal w out = pick (eqb out (lineLen w)) done outputLength
 
--- "Refusals in order: 12, 15 for a line number at or past the height, 13 against 4·width, 6, 14."
-unfoldable pub lineRefusal : ℕ → List ℕ → ℕ → ℕ → ℕ → ℕ → ℕ
-lineRefusal bits w y out tables pictures =
+-- "Refusals in order: 12, 15 for a line number at or past the height, 13 against 4·width, 6, 14.", and 18
+unfoldable pub lineRefusal : ℕ → List ℕ → ℕ → ℕ → ℕ → ℕ → ℕ → ℕ
+lineRefusal bits w y out tables pictures floats =
     orElse (sizeRefusal w)
-    (orElse (numberRefusal w y) (orElse (lengthRefusal w out) (lentRefusal bits w tables pictures)))
+    (orElse (numberRefusal w y) (orElse (lengthRefusal w out) (lentRefusal bits w tables pictures floats)))
 
 -- of a scene and an output
 abbrev pub lineRefusalOf : Scene → ℕ → List ℕ → ℕ
 lineRefusalOf s y out =
     lineRefusal (bitsOf (s .profile)) (s .words) y (length out) (length (s .tables)) (length (s .pictures))
+    (length (s .floats))
 
 -- ---- the line: "For every accepted setting and every line its bytes and error bits are those of the whole frame."
 

@@ -5,14 +5,15 @@ use mathlib.Core.Bool.{Bool}
 use mathlib.Core.List.{List}
 use lib.ListN.{getD, take, drop}
 use lib.Dec.{leb, ltb}
-use Rattle.lists.specs.Choice.{pick, both}
+use Rattle.lists.specs.Choice.{pick, choose, both}
 use Rattle.mix.specs.Pixel.{pixelLen, alphaPlace}
 use Rattle.mix.specs.Blend.{blendOf}
 use Rattle.mix.specs.Fade.{fadeOf}
+use Rattle.river.specs.River.{bytesFrom}
 use Rattle.profiles.specs.Profile.{bitsOf}
 use Rattle.words.specs.declared.fields.Layer.{Layer}
 use Rattle.words.specs.Fields.{layerOf}
-use Rattle.words.specs.Pictures.{pictureStart}
+use Rattle.words.specs.Pictures.{startAt}
 use Rattle.tables.specs.Geometry.{colourLen, kindLen, listKind, coloursKind, stringsKind, fontKind}
 use Rattle.tables.specs.Selection.{activeAt}
 use Rattle.draw.specs.Drawing.{indexAt}
@@ -36,10 +37,14 @@ unfoldable pub graphicsAt : ℕ → List ℕ → List ℕ → ℕ → ℕ → �
 graphicsAt bits w tables n v u c =
     getD (bankBytes bits w tables n coloursKind) (colourLen * colourIndex bits w tables n v u + c) 0
 
+-- 02 K7: "Demands 2 and 3 read a float layer by these bytes.": the buffer that layer n's picture stands in, as bytes
+unfoldable pub bufferOf : Scene → ℕ → List ℕ
+bufferOf s n = choose (layerOf (s .words) n .floats) (bytesFrom (s .floats)) (s .pictures)
+
 -- 01 "Painting": a picture has "4·width·height bytes in raster order"
 unfoldable pub pictureAt : Scene → ℕ → ℕ → ℕ → ℕ → ℕ
 pictureAt s n v u c =
-    getD (s .pictures) (pictureStart (s .words) n + (pixelLen * (v * layerOf (s .words) n .width + u) + c)) 0
+    getD (bufferOf s n) (startAt (s .words) n + (pixelLen * (v * layerOf (s .words) n .width + u) + c)) 0
 
 -- place c of layer n
 unfoldable pub ownAt : Scene → ℕ → ℕ → ℕ → ℕ → ℕ

@@ -1,6 +1,7 @@
 -- The cases of the entry, and the order of its refusals. Assumes nothing.
 use mathlib.Core.Path.{_≡_, refl, sym, ap, _∙_}
 use mathlib.Core.Bool.{Bool, true, false}
+use mathlib.Core.Logic.{⊎-elim}
 use mathlib.Core.List.{List}
 use Prim.Native.Nat.{ℕ}
 use native.Mathlib.Omega.{arith}
@@ -9,11 +10,13 @@ use lib.Dec.{eqb}
 use lib.ListN.{length}
 use Rattle.lists.specs.Choice.{pick, either, orElse}
 use Rattle.lists.specs.Runs.{firstOf}
-use Rattle.lists.proofs.Choice.{either-any, orElse-left, orElse-right}
+use Rattle.lists.proofs.Choice.{same-or, either-any, orElse-left, orElse-right}
 use Rattle.answers.specs.Answers.{done, tablesLength, emptyScreen, noSize, imageLength}
 use Rattle.profiles.specs.Profile.{bitsOf}
 use Rattle.words.specs.Fields.{widthOf, heightOf}
-use Rattle.words.specs.Check.{reservedAt, screenOf, checkOf}
+use Rattle.words.specs.Check.{reservedAt, kindAt, screenOf, checkOf}
+use Rattle.words.proofs.CheckLaws.{check-let}
+use Rattle.words.proofs.PictureLaws.{no-floats}
 use Rattle.tables.specs.Geometry.{tablesLen}
 use Rattle.paint.specs.declared.Painted.{Painted}
 use Rattle.paint.specs.Painted.{answered}
@@ -31,20 +34,20 @@ module _ (image : List ℕ) (frame : ℕ) (tables pictures out : List ℕ) where
   host-length ne = (rw (ne-eqb _ _ ne), rw (ne-eqb _ _ ne))
 
   module _ (long : length image ≡ 208) where
-    checked : (a : ℕ) → a ≡ checkOf (wordsOf image)
+    checked : (a : ℕ) → a ≡ checkOf false (wordsOf image)
         → hostAnswer image frame tables pictures out
         ≡ orElse a (refusalOf (sceneIn image frame tables pictures) 0 8 out)
     unfolding hostAnswer
     checked a e = rw (eq-eqb _ _ long, ← e)
 
-    pub host-refused : (a : ℕ) → a ≡ checkOf (wordsOf image) → (a ≡ 0 → ⊥)
+    pub host-refused : (a : ℕ) → a ≡ checkOf false (wordsOf image) → (a ≡ 0 → ⊥)
         → (a ≡ hostAnswer image frame tables pictures out) × (out ≡ hostOutput image frame tables pictures out)
     unfolding hostOutput
     host-refused a e ne =
         let q : hostAnswer image frame tables pictures out ≡ a = checked a e ∙ rw (ne-eqb a 0 ne) in
         (sym q, rw (q, ne-eqb a 0 ne))
 
-    pub host-painted : (a : ℕ) (p : Painted) (out′ : List ℕ) → a ≡ checkOf (wordsOf image) → a ≡ 0
+    pub host-painted : (a : ℕ) (p : Painted) (out′ : List ℕ) → a ≡ checkOf false (wordsOf image) → a ≡ 0
         → (errors : ℕ) → p ≡ answered (refusalOf (sceneIn image frame tables pictures) 0 8 out) errors
         → out′ ≡ frameAfter (sceneIn image frame tables pictures) out
         → (p .answer ≡ hostAnswer image frame tables pictures out) × (out′ ≡ hostOutput image frame tables pictures out)
@@ -57,11 +60,11 @@ module _ (image : List ℕ) (frame : ℕ) (tables pictures out : List ℕ) where
 -- ---- "Order 16, 7, 8, 9 and 10, 11, 13, 6, 14.": after the check a frame is refused by 13, 6, 14 alone
 
 -- words that pass have a size
-pub check-sized : (w : List ℕ) → checkOf w ≡ 0 → sizeRefusal w ≡ 0
+pub check-sized : (w : List ℕ) → checkOf false w ≡ 0 → sizeRefusal w ≡ 0
 unfolding checkOf screenOf
 check-sized w e =
     sized (eqb (widthOf w) 0) (eqb (heightOf w) 0)
-    (orElse-left (screenOf w) _ (orElse-right (firstOf 52 (reservedAt w)) _ e))
+    (orElse-left (screenOf w) _ (orElse-right (firstOf 8 (kindAt false w)) _ (orElse-right (firstOf 52 (reservedAt w)) _ e)))
   where
     sized : (s t : Bool) → pick s emptyScreen (pick t emptyScreen done) ≡ 0 → pick (either s t) noSize done ≡ 0
     sized true t e = absurd (let z : ⊥ = omega arith in z)
@@ -80,11 +83,18 @@ host-tables n = go (eqb n (tablesLen 2)) (eqb n (tablesLen 1)) refl refl
     go false false p q = rw q
 
 pub host-order : (image : List ℕ) (frame : ℕ) (tables pictures out : List ℕ) → length image ≡ 208
-    → checkOf (wordsOf image) ≡ 0
+    → checkOf false (wordsOf image) ≡ 0
     → hostAnswer image frame tables pictures out
     ≡ orElse (outputRefusal (wordsOf image) (length out))
     (orElse (tablesRefusal (bitsOf (profileFor (length tables))) (length tables))
     (picturesRefusal (wordsOf image) (length pictures)))
 unfolding paintRefusal
 host-order image frame tables pictures out long e =
-    checked image frame tables pictures out long 0 (sym e) ∙ rw (check-sized (wordsOf image) e)
+    checked image frame tables pictures out long 0 (sym e)
+    ∙ rw (check-sized (wordsOf image) e, no-floats (wordsOf image) (check-let (wordsOf image) false e))
+    (ap (λ (n : ℕ). orElse (outputRefusal (wordsOf image) (length out))
+    (orElse (tablesRefusal (bitsOf (profileFor (length tables))) (length tables)) n))
+    (orElse-done (picturesRefusal (wordsOf image) (length pictures))))
+  where
+    orElse-done : (a : ℕ) → orElse a 0 ≡ a
+    orElse-done a = ⊎-elim (λ (z : a ≡ 0). rw z) (λ (ne : a ≡ 0 → ⊥). rw (ne-eqb a 0 ne)) (same-or a 0)

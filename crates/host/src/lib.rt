@@ -15,12 +15,15 @@ fn profile_for(long: usize) -> Profile
     ensures { λ r. ⌜ r ≡ profileFor long ⌝ }
 {
     let soft = long == tables_len(2);
-    Profile { soft }
+    Profile {
+        soft,
+        floats: false,
+    }
 }
 
 // Paints a whole frame of the image's words at a frame number. Answers 0, or the first of 16, 7, 8, 9
 // and 10 of each layer, 11, 13, 6, 14; a refusal leaves `output`. Error bits are dropped. A glyph's pixel has
-// one bit or two, as the tables are long.
+// one bit or two, as the tables are long. No floats are lent, so that a float layer answers 7.
 #[no_mangle]
 pub extern "C" fn spoonwing_frame(
     image: &[u8],
@@ -38,12 +41,23 @@ pub extern "C" fn spoonwing_frame(
         return IMAGE_LENGTH as u32;
     }
     let words = words_at(image, 0);
-    let refusal = refusal_of(&words);
+    let refusal = refusal_of(false, &words);
     if refusal != DONE {
         return refusal as u32;
     }
     let profile = profile_for(tables.len());
     let layout = layout_of(&words);
-    let painted = paint::frame(profile, &words, layout, frame, 0, tables, pictures, output);
+    let none: [f32; 0] = [];
+    let painted = paint::frame(
+        profile,
+        &words,
+        layout,
+        frame,
+        0,
+        tables,
+        pictures,
+        &none,
+        output,
+    );
     painted.answer as u32
 }

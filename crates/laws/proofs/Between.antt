@@ -1,23 +1,28 @@
 -- "each channel lies between the least and greatest of the background's and the covering layers'
 -- there". Assumes nothing.
 use mathlib.Core.Path.{_≡_}
-use mathlib.Core.Bool.{true}
+use mathlib.Core.Bool.{Bool, true, false}
 use mathlib.Core.Logic.{⊎-elim}
 use mathlib.Core.List.{List}
 use Prim.Native.Nat.{ℕ, _+_, _*_, _≤_, _<_}
 use native.Mathlib.Omega.{arith}
+use lib.Ieee.{nan}
 use lib.ListN.{getD, take, drop, length-take, List·getD-eq-default}
+use Rattle.lists.specs.Choice.{choose}
 use Rattle.lists.proofs.Choice.{split, pick-keeps}
 use Rattle.lists.proofs.Run.{run-keeps, run-after}
 use Rattle.lists.proofs.Tab.{getD-part}
 use Rattle.mix.proofs.BlendLaws.{blendOf-le, blendOf-ge}
 use Rattle.mix.proofs.FadeLaws.{fadeOf-le}
+use Rattle.river.specs.River.{bytesFrom}
+use Rattle.river.proofs.RiverLaws.{byte-lt, bytes-at}
 use Rattle.words.specs.Fields.{groundOf, layerOf}
 use Rattle.profiles.specs.Profile.{bitsOf}
 use Rattle.tables.specs.Geometry.{colourLen, kindLen}
 use Rattle.tables.specs.Selection.{activeAt}
 use Rattle.frames.specs.Scene.{Scene}
-use Rattle.frames.specs.Pixel.{bankBytes, colourIndex, graphicsAt, pictureAt, ownAt, alphaAt, covers, overAt}
+use Rattle.frames.specs.Pixel.{bankBytes, colourIndex, graphicsAt, bufferOf, pictureAt, ownAt, alphaAt, covers}
+use Rattle.frames.specs.Pixel.{overAt}
 use Rattle.frames.specs.Band.{pixelAt}
 use Rattle.frames.specs.Frame.{frameOf}
 use Rattle.laws.specs.Painting.{Ready, OnScreen, channelAt, ownOver, AreBytes, shows, leastStep}
@@ -46,11 +51,20 @@ module _ (s : Scene) (tables : AreBytes (s .tables)) (pictures : AreBytes (s .pi
       part-le (s .tables) (activeAt (bitsOf (s .profile)) (s .words) n 1) (kindLen (bitsOf (s .profile)) 1)
       (colourLen * colourIndex (bitsOf (s .profile)) (s .words) (s .tables) n v u + c) tables
 
+  -- of floats by what a byte of one is
+  buffer-le : (n i : ℕ) → getD (bufferOf s n) i 0 ≤ 255
+  unfolding bufferOf
+  buffer-le n i = go (layerOf (s .words) n .floats)
+    where
+      go : (t : Bool) → getD (choose t (bytesFrom (s .floats)) (s .pictures)) i 0 ≤ 255
+      go true = rw (bytes-at (s .floats) i) (omega (arith, byte-lt (getD (s .floats) i nan)))
+      go false = byte-le (s .pictures) pictures i
+
   own-le : (n u v c : ℕ) → ownAt s n v u c ≤ 255
   unfolding ownAt pictureAt
   own-le n u v c =
       pick-keeps (λ (z : ℕ). z ≤ 255) (layerOf (s .words) n .graphics) _ _ (λ t. graphics-le n u v c)
-      (λ f. byte-le (s .pictures) pictures _)
+      (λ f. buffer-le n _)
 
   alpha-le : (n u v : ℕ) → alphaAt s n v u ≤ 255
   unfolding alphaAt

@@ -1,7 +1,7 @@
 -- 01 "Answers by number", 7 to 11: the check gives a number exactly in its case, with none of the
 -- earlier ones. Assumes nothing.
-use mathlib.Core.Path.{_≡_, refl}
-use mathlib.Core.Bool.{Bool, true, false}
+use mathlib.Core.Path.{_≡_, refl, sym}
+use mathlib.Core.Bool.{Bool, true, false, not, false≢true}
 use mathlib.Core.Logic.{_↔_}
 use mathlib.Core.List.{List}
 use Prim.Native.Nat.{ℕ, _+_, _<_}
@@ -10,13 +10,15 @@ use Rattle.lists.specs.Choice.{pick, both, either, orElse}
 use Rattle.lists.specs.Runs.{firstOf}
 use Rattle.words.specs.declared.fields.Layer.{Layer}
 use Rattle.words.specs.Fields.{widthOf, heightOf, layerOf}
-use Rattle.words.specs.Check.{reservedAt, screenOf, placeOf, placeAt, clashOf, clashAt, clashBelow, checkOf, Accepted}
-use Rattle.words.proofs.CheckLaws.{check-accepted, accepted-check}
+use Rattle.words.specs.Check.{reservedAt, kindOf, kindAt, screenOf, placeOf, placeAt, clashOf, clashAt, clashBelow}
+use Rattle.words.specs.Check.{checkOf}
+use Rattle.words.proofs.CheckLaws.{check-accepted, check-let, accepted-check}
 use Rattle.laws.specs.Rows.{ReservedBit, EmptyScreen, Enabled, EmptyLayer, OffScreen, Passes, SameDepth, Case8}
-use Rattle.laws.specs.Rows.{Case9, Case10, Case11}
-use Rattle.laws.proofs.Refusals.{says-itself, eqb-says, ltb-says, both-says, either-says, Tells, refuses}
+use Rattle.laws.specs.Rows.{BadKind, Case7, Case9, Case10, Case11, Passing}
+use Rattle.laws.proofs.Refusals.{Says, says-itself, eqb-says, ltb-says, both-says, either-says, Tells, refuses}
 use Rattle.laws.proofs.Refusals.{refuses-but, tells-as, Misses, other, misses-or, or-first, or-later, given-when}
-use Rattle.laws.proofs.Refusals.{passed-when, own, past, tells-first, misses-first, first-passed, first-given}
+use Rattle.laws.proofs.Refusals.{passed-when, own, past, tells-or, or-or, tells-first}
+use Rattle.laws.proofs.Refusals.{misses-first, first-passed, first-given}
 
 -- ---- the tests
 
@@ -117,41 +119,76 @@ module _ (w : List ℕ) where
 
   -- ---- the check
 
-  pub check-7 : (checkOf w ≡ 7) ↔ ReservedBit w
-  unfolding checkOf
-  check-7 = own refl _ tells-7 (misses-or (screenOf w) _ 7 (other 7 refl tells-8)
-      (misses-or (firstOf 8 (placeAt w)) _ 7 (places-miss 7 refl refl) (other 7 refl tells-11)))
+  module _ (floats : Bool) where
+    kind-is : (f t g : Bool) → pick f (pick (both t (not g)) 0 7) 0 ≡ pick (both f (not (both t (not g)))) 7 0
+    kind-is true true true = refl
+    kind-is true true false = refl
+    kind-is true false g = refl
+    kind-is false t g = refl
 
-  pub check-8 : (checkOf w ≡ 8) ↔ Case8 w
-  unfolding checkOf
-  check-8 = past refl _ 8 refl tells-7 (own refl _ tells-8
-      (misses-or (firstOf 8 (placeAt w)) _ 8 (places-miss 8 refl refl) (other 8 refl tells-11)))
+    not-says : {P : Type 0} (t : Bool) → Says t P → Says (not t) (¬ P)
+    not-says true s = (λ e. absurd (false≢true e), λ e n. n (s .0 refl))
+    not-says false s = (λ e. s .1 refl, λ e. absurd (false≢true (sym e)))
 
-  pub check-9 : (checkOf w ≡ 9) ↔ Case9 w
-  unfolding checkOf
-  check-9 = past refl _ 9 refl tells-7 (past refl _ 9 refl tells-8
-      (or-first (firstOf 8 (placeAt w)) _ 9 refl (other 9 refl tells-11)
-      (first-given (placeAt w) place-0 9 refl place-9 8)))
+    is-not : (t : Bool) → Says (not t) (t ≡ false)
+    is-not true = (λ e. absurd (false≢true e), λ e f. false≢true (sym f))
+    is-not false = (λ e. refl, λ e. absurd (false≢true (sym e)))
 
-  pub check-10 : (checkOf w ≡ 10) ↔ Case10 w
-  unfolding checkOf
-  check-10 = past refl _ 10 refl tells-7 (past refl _ 10 refl tells-8
-      (or-first (firstOf 8 (placeAt w)) _ 10 refl (other 10 refl tells-11)
-      (first-given (placeAt w) place-0 10 refl place-10 8)))
+    kind-at : (n : ℕ) → Tells (kindAt floats w n) 7
+        ((layerOf w n .floats ≡ true) × ¬ ((floats ≡ true) × (layerOf w n .graphics ≡ false)))
+    unfolding kindAt kindOf
+    kind-at n =
+        rw (kind-is (layerOf w n .floats) floats (layerOf w n .graphics))
+        (refuses _ 7 (both-says _ _ (says-itself _)
+        (not-says _ (both-says _ _ (says-itself floats) (is-not (layerOf w n .graphics))))))
 
-  pub check-11 : (checkOf w ≡ 11) ↔ Case11 w
-  unfolding checkOf
-  check-11 = past refl _ 11 refl tells-7 (past refl _ 11 refl tells-8
-      (or-later (firstOf 8 (placeAt w)) _ 11 (places-miss 11 refl refl) (first-passed (placeAt w) place-0 8)
-      (given-when refl tells-11)))
+    tells-kind : Tells (firstOf 8 (kindAt floats w)) 7 (BadKind floats w)
+    tells-kind =
+        tells-as (λ p. (p .0, p .1, p .2 .0, p .2 .1), λ q. (q .0, q .1, (q .2, q .3)))
+        (tells-first {P = λ n. (layerOf w n .floats ≡ true) × ¬ ((floats ≡ true) × (layerOf w n .graphics ≡ false))}
+        8 7 (kindAt floats w) refl kind-at)
 
-  pub check-0 : (checkOf w ≡ 0) ↔ Accepted w
-  check-0 = (check-accepted w, accepted-check w)
+    -- both that give 7
+    abbrev sevens : ℕ
+    sevens = orElse (firstOf 52 (reservedAt w)) (firstOf 8 (kindAt floats w))
 
-  -- it gives no other number
-  pub check-misses : (r : ℕ) → eqb 7 r ≡ false → eqb 8 r ≡ false → eqb 9 r ≡ false → eqb 10 r ≡ false
-      → eqb 11 r ≡ false → Misses (checkOf w) r
-  unfolding checkOf
-  check-misses r a b c d e =
-      misses-or (firstOf 52 (reservedAt w)) _ r (other r a tells-7) (misses-or (screenOf w) _ r (other r b tells-8)
-      (misses-or (firstOf 8 (placeAt w)) _ r (places-miss r c d) (other r e tells-11)))
+    tells-case7 : Tells sevens 7 (Case7 floats w)
+    tells-case7 = tells-or (firstOf 52 (reservedAt w)) (firstOf 8 (kindAt floats w)) refl tells-7 tells-kind
+
+    check-is : checkOf floats w
+        ≡ orElse sevens (orElse (screenOf w) (orElse (firstOf 8 (placeAt w)) (firstOf 8 (clashBelow w))))
+    unfolding checkOf
+    check-is = or-or (firstOf 52 (reservedAt w)) (firstOf 8 (kindAt floats w)) _
+
+    pub check-7 : (checkOf floats w ≡ 7) ↔ Case7 floats w
+    check-7 = rw check-is (own refl _ tells-case7 (misses-or (screenOf w) _ 7 (other 7 refl tells-8)
+        (misses-or (firstOf 8 (placeAt w)) _ 7 (places-miss 7 refl refl) (other 7 refl tells-11))))
+
+    pub check-8 : (checkOf floats w ≡ 8) ↔ Case8 floats w
+    check-8 = rw check-is (past refl _ 8 refl tells-case7 (own refl _ tells-8
+        (misses-or (firstOf 8 (placeAt w)) _ 8 (places-miss 8 refl refl) (other 8 refl tells-11))))
+
+    pub check-9 : (checkOf floats w ≡ 9) ↔ Case9 floats w
+    check-9 = rw check-is (past refl _ 9 refl tells-case7 (past refl _ 9 refl tells-8
+        (or-first (firstOf 8 (placeAt w)) _ 9 refl (other 9 refl tells-11)
+        (first-given (placeAt w) place-0 9 refl place-9 8))))
+
+    pub check-10 : (checkOf floats w ≡ 10) ↔ Case10 floats w
+    check-10 = rw check-is (past refl _ 10 refl tells-case7 (past refl _ 10 refl tells-8
+        (or-first (firstOf 8 (placeAt w)) _ 10 refl (other 10 refl tells-11)
+        (first-given (placeAt w) place-0 10 refl place-10 8))))
+
+    pub check-11 : (checkOf floats w ≡ 11) ↔ Case11 floats w
+    check-11 = rw check-is (past refl _ 11 refl tells-case7 (past refl _ 11 refl tells-8
+        (or-later (firstOf 8 (placeAt w)) _ 11 (places-miss 11 refl refl) (first-passed (placeAt w) place-0 8)
+        (given-when refl tells-11))))
+
+    pub check-0 : (checkOf floats w ≡ 0) ↔ Passing floats w
+    check-0 = (λ e. (check-accepted w floats e, check-let w floats e), λ p. accepted-check w floats (p .0) (p .1))
+
+    -- it gives no other number
+    pub check-misses : (r : ℕ) → eqb 7 r ≡ false → eqb 8 r ≡ false → eqb 9 r ≡ false → eqb 10 r ≡ false
+        → eqb 11 r ≡ false → Misses (checkOf floats w) r
+    check-misses r a b c d e = rw check-is
+        (misses-or sevens _ r (other r a tells-case7) (misses-or (screenOf w) _ r (other r b tells-8)
+        (misses-or (firstOf 8 (placeAt w)) _ r (places-miss r c d) (other r e tells-11))))

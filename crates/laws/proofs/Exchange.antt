@@ -8,6 +8,7 @@ use native.Mathlib.Omega.{arith}
 use borrow.Author.Tests.{eqb-true}
 use lib.Dec.{eqb}
 use lib.Bits.{bitOr}
+use lib.Ieee.{Float}
 use lib.ListN.{length, getD}
 use Rattle.lists.specs.Choice.{pick, both}
 use Rattle.lists.proofs.Choice.{same-or, both-false}
@@ -30,7 +31,7 @@ use Rattle.display.specs.declared.Display.{Display}
 use Rattle.display.specs.State.{told, withActive}
 use Rattle.display.specs.Paint.{sceneWith, frameTold, frameBytes, paintTold}
 use Rattle.laws.specs.Painting.{Ready, IsLayer, Neighbours, withWords, exchanged}
-use Rattle.laws.proofs.LayerLaws.{Alike, depth-lt, accepted-alike}
+use Rattle.laws.proofs.LayerLaws.{Alike, depth-lt, alike-kind, accepted-alike}
 use Rattle.laws.proofs.Bands.{depthStep-only, depthStep-none}
 use Rattle.laws.proofs.Pixels.{ready-done, ready-alike, covers-not, over-alike, mark-alike, frame-same}
 
@@ -148,7 +149,8 @@ module _ (w : List ℕ) (i j : ℕ) (all : length w ≡ 52) (acc : Accepted w) (
 
   pub exchange-accepted : Accepted (exchanged w i j)
   exchange-accepted =
-      accepted-alike w (exchanged w i j) acc plain (exchanged-word 1 (omega arith)) (λ n o. alike n)
+      accepted-alike w (exchanged w i j) acc plain (exchanged-word 1 (omega arith))
+      (λ n. alike-kind (layerOf (exchanged w i j) n) (layerOf w n) (alike n)) (λ n o. alike n)
       (λ n m hn hm on om on′ om′ d. one-depth n m hn hm on om d)
 
   -- ---- a fold over them
@@ -264,16 +266,17 @@ exchange s i j ready q = over-both s i j ready q
 
 -- as the display tells it: the same bytes, the same answer, and a state that differs in the exchanged
 -- fields alone
-pub exchange-frame : (d : Display) (tables pictures out : List ℕ) (i j : ℕ) → Ready (sceneWith d tables pictures)
+pub exchange-frame : (d : Display) (tables pictures : List ℕ) (floats : List Float) (out : List ℕ) (i j : ℕ)
+    → Ready (sceneWith d tables pictures floats)
     → Neighbours (d .active) i j → length out ≡ frameLen (d .active)
     → let e = withActive d (exchanged (d .active) i j) in
-    (frameBytes e tables pictures out ≡ frameBytes d tables pictures out)
-    × (frameTold e tables pictures out
-    ≡ told (withActive (frameTold d tables pictures out .state) (exchanged (d .active) i j))
-    (frameTold d tables pictures out .answer))
+    (frameBytes e tables pictures floats out ≡ frameBytes d tables pictures floats out)
+    × (frameTold e tables pictures floats out
+    ≡ told (withActive (frameTold d tables pictures floats out .state) (exchanged (d .active) i j))
+    (frameTold d tables pictures floats out .answer))
 unfolding frameBytes frameTold painting.frameAfter paintTold painting.errorsAfter
-exchange-frame d tables pictures out i j ready q long =
-    let s : Scene = sceneWith d tables pictures in
+exchange-frame d tables pictures floats out i j ready q long =
+    let s : Scene = sceneWith d tables pictures floats in
     let x = exchange s i j ready q in
     let same : getD (exchanged (d .active) i j) 1 0 ≡ getD (d .active) 1 0 =
     exchanged-word (d .active) i j (ready .long) (ready .accepted) q 1 (omega arith) in

@@ -3,6 +3,7 @@
 -- IMPOSTOR-breaks says so of all that paint. Assumes nothing.
 use Prim.Native.Nat.{ℕ, _<_}
 use mathlib.Core.Path.{_≡_, refl, sym, ap, _∙_}
+use mathlib.Core.Bool.{true}
 use mathlib.Core.List.{List, [], _∷_}
 use native.Mathlib.Omega.{arith}
 use borrow.Author.Tests.{eq-eqb}
@@ -66,7 +67,7 @@ unfolding littleAt
 write-one = write-run-one first oneWrite refl
 
 module _ (t : Told) (down : TurnsDown (t .answer)) where
-  pub new-down : Meets newCall 1 t → ⊥
+  pub new-down : Meets newCall (1, true) t → ⊥
   new-down m = refused refl down (tied-meets new-tie m)
 
   pub write-down : Meets writeCall (first, 0, 1) t → ⊥
@@ -97,14 +98,14 @@ module _ (t : Told) (down : TurnsDown (t .answer)) where
   pub fill-down : (out : List ℕ) → Meets fillCall (started grey, filled) (t, out) → ⊥
   fill-down out m = refused (small.fill-accepted .0) down (pair-is .1 (tied-meets fill-tie m) .0)
 
-  pub paint-down : (out : List ℕ) → Meets paintCall (started grey, 0, 8, blank, white, filled) (t, out) → ⊥
+  pub paint-down : (out : List ℕ) → Meets paintCall (started grey, 0, 8, blank, white, [], filled) (t, out) → ⊥
   paint-down out m = refused (small.paint-accepted white refl) down (pair-is .1 (tied-meets paint-tie m) .0)
 
-  pub frame-down : (out : List ℕ) → Meets frameCall (started grey, blank, white, filled) (t, out) → ⊥
+  pub frame-down : (out : List ℕ) → Meets frameCall (started grey, blank, white, [], filled) (t, out) → ⊥
   frame-down out m = refused (small.frame-accepted white refl) down (pair-is .1 (tied-meets frame-tie m) .0)
 
   -- a frame's line, not a sheet's
-  pub scan-down : (out : List ℕ) → Meets lineCall (started grey, 0, blank, white, filled) (t, out) → ⊥
+  pub scan-down : (out : List ℕ) → Meets lineCall (started grey, 0, blank, white, [], filled) (t, out) → ⊥
   scan-down out m = refused (small.line-accepted white refl) down (pair-is .1 (tied-meets line-tie m) .0)
 
 pub host-down : (answer : ℕ) (out : List ℕ) → TurnsDown answer
@@ -264,13 +265,13 @@ feed-untouched m = blank-page outLen (omega arith) (small.feeds-is white small.f
 
 -- ---- a wrong number of bits: every state has one; any number is taken; "a fresh one-bit state" has two
 
-pub new-rough : Meets newCall 2 (told (fresh oneBit) done) → ⊥
+pub new-rough : Meets newCall (2, true) (told (fresh (oneBit true)) done) → ⊥
 new-rough m = apart (λ (t : Told). bitsIn (t .state)) (λ (z : 1 ≡ 2). omega arith) (tied-meets new-tie m)
 
-pub new-taken : (d : Display) → Meets newCall 3 (told d done) → ⊥
+pub new-taken : (d : Display) → Meets newCall (3, true) (told d done) → ⊥
 new-taken d m = apart (λ (t : Told). t .answer) (λ (z : 0 ≡ 17). omega arith) (tied-meets new-tie m)
 
-pub new-soft : Meets newCall 3 (told (fresh twoBits) glyphBits) → ⊥
+pub new-soft : Meets newCall (3, true) (told (fresh (twoBits true)) glyphBits) → ⊥
 new-soft m = apart (λ (t : Told). bitsIn (t .state)) (λ (z : 2 ≡ 1). omega arith) (tied-meets new-tie m)
 
 -- ---- errors of toggle and start

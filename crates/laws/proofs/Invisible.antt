@@ -1,12 +1,14 @@
 -- "a layer whose alpha is 0 all over may be switched off, its picture withdrawn with it". Assumes
 -- nothing.
 use mathlib.Core.Path.{_≡_, refl, sym, ap, _∙_}
-use mathlib.Core.Bool.{true, true≢false}
+use mathlib.Core.Bool.{Bool, true, false, true≢false}
 use mathlib.Core.Logic.{⊎-elim}
 use mathlib.Core.List.{List}
 use Prim.Native.Nat.{ℕ, _+_, _*_, _≤_, _<_}
 use native.Mathlib.Omega.{arith}
 use lib.ListN.{length, getD}
+use Rattle.lists.specs.Choice.{choose}
+use Rattle.lists.specs.Cut.{cut}
 use Rattle.lists.proofs.Choice.{same-or, split, pick-cong, pick-keeps, both-left}
 use Rattle.lists.proofs.Cut.{length-cut, cut-low, cut-high}
 use Rattle.lists.proofs.Sum.{sum-cong, sum-room, sum-without}
@@ -15,15 +17,18 @@ use Rattle.words.specs.Fields.{layerOf}
 use Rattle.words.specs.Check.{Plain, Accepted}
 use Rattle.words.specs.Change.{withOff}
 use Rattle.words.specs.Order.{here}
-use Rattle.words.specs.Pictures.{pictureLen, pictureLenAt, pictureStart, picturesLen}
+use Rattle.words.specs.Pictures.{pictureLen, pictureLenAt, pictureStart, picturesLen, startAt}
+use Rattle.river.specs.River.{bytesFrom}
+use Rattle.river.proofs.RiverLaws.{length-bytes}
 use Rattle.words.proofs.ChangeLaws.{Kept, kept-off, switchedOff, atDepth, withOff-same}
 use Rattle.frames.specs.Scene.{Scene}
 use Rattle.profiles.specs.Profile.{bitsOf}
-use Rattle.frames.specs.Pixel.{bankBytes, colourIndex, graphicsAt, pictureAt, ownAt, overAt}
+use Rattle.frames.specs.Pixel.{bankBytes, colourIndex, graphicsAt, bufferOf, pictureAt, ownAt, overAt}
 use Rattle.frames.specs.Band.{layerStep}
 use Rattle.frames.specs.Frame.{frameOf}
 use Rattle.laws.specs.Painting.{Ready, Clear, without}
-use Rattle.laws.proofs.LayerLaws.{accepted-alike}
+use Rattle.laws.proofs.LayerLaws.{SameKind, kinds-let, accepted-alike}
+use Rattle.laws.proofs.FloatLaws.{bytes-cut, length-cut-floats}
 use Rattle.laws.proofs.Bands.{bandBy-cong}
 use Rattle.laws.proofs.Pixels.{picture-room, over-clear, over-same, frame-same}
 
@@ -61,55 +66,98 @@ module _ (s : Scene) (n : ℕ) (ready : Ready s) (hn : n < 8) where
   long : length w′ ≡ 52
   long = words-kept .long ∙ ready .long
 
+  -- each is of the kind that it was
+  kinds : (m : ℕ) → SameKind (layerOf w′ m) (layerOf w m)
+  kinds m = ⊎-elim
+      (λ (e : m ≡ n). rw (e, layer-n) (record { graphics = refl; floats = refl }))
+      (λ (ne : m ≡ n → ⊥). rw (other-m m ne) (record { graphics = refl; floats = refl }))
+      (same-or m n)
+
   acc′ : Accepted w′
   acc′ =
-      accepted-alike w w′ acc plain (words-kept .first 1 (omega arith))
+      accepted-alike w w′ acc plain (words-kept .first 1 (omega arith)) kinds
       (λ m o. ap (λ (l : Layer). atDepth l 0) (was m o))
       (λ m k hm hk om ok om′ ok′ d. acc .apart m k hm hk om ok
       (sym (ap (λ (l : Layer). l .depth) (was m om′)) ∙ d ∙ ap (λ (l : Layer). l .depth) (was k ok′)))
 
-  -- ---- where the other pictures begin now
+  -- ---- where the other pictures begin now, in either buffer
 
-  len-n : pictureLenAt w′ n ≡ 0
-  unfolding pictureLenAt pictureLen
-  len-n = ap pictureLen layer-n
+  module _ (k : Bool) where
+    len-n : pictureLenAt k w′ n ≡ 0
+    unfolding pictureLenAt pictureLen
+    len-n = ap (pictureLen k) layer-n
 
-  len-m : (m : ℕ) → (m ≡ n → ⊥) → pictureLenAt w′ m ≡ pictureLenAt w m
-  unfolding pictureLenAt
-  len-m m ne = ap pictureLen (other-m m ne)
+    len-m : (m : ℕ) → (m ≡ n → ⊥) → pictureLenAt k w′ m ≡ pictureLenAt k w m
+    unfolding pictureLenAt
+    len-m m ne = ap (pictureLen k) (other-m m ne)
 
-  start-below : (m : ℕ) → m < n → pictureStart w′ m ≡ pictureStart w m
-  unfolding pictureStart
-  start-below m h = sum-cong m _ _ (λ k lt. len-m k (λ e. omega arith))
+    start-below : (m : ℕ) → m < n → pictureStart k w′ m ≡ pictureStart k w m
+    unfolding pictureStart
+    start-below m h = sum-cong m _ _ (λ i lt. len-m i (λ e. omega arith))
 
-  start-above : (m : ℕ) → n < m → pictureStart w′ m + pictureLenAt w n ≡ pictureStart w m
-  unfolding pictureStart
-  start-above m h = sum-without m n _ _ h len-n (λ k lt ne. len-m k ne)
+    start-above : (m : ℕ) → n < m → pictureStart k w′ m + pictureLenAt k w n ≡ pictureStart k w m
+    unfolding pictureStart
+    start-above m h = sum-without m n _ _ h len-n (λ i lt ne. len-m i ne)
 
-  total : picturesLen w′ + pictureLenAt w n ≡ picturesLen w
-  unfolding picturesLen
-  total = sum-without 8 n _ _ hn len-n (λ k lt ne. len-m k ne)
+    total : picturesLen k w′ + pictureLenAt k w n ≡ picturesLen k w
+    unfolding picturesLen
+    total = sum-without 8 n _ _ hn len-n (λ i lt ne. len-m i ne)
 
-  room : (m k : ℕ) → m < k → pictureStart w m + pictureLenAt w m ≤ pictureStart w k
-  unfolding pictureStart
-  room m k h = sum-room k m (pictureLenAt w) h
+    room : (m i : ℕ) → m < i → pictureStart k w m + pictureLenAt k w m ≤ pictureStart k w i
+    unfolding pictureStart
+    room m i h = sum-room i m (pictureLenAt k w) h
 
-  fits : pictureStart w n + pictureLenAt w n ≤ length (s .pictures)
-  unfolding pictureStart picturesLen
-  fits = rw (ready .pictures) (sum-room 8 n (pictureLenAt w) hn)
+    fits : pictureStart k w n + pictureLenAt k w n ≤ picturesLen k w
+    unfolding pictureStart picturesLen
+    fits = sum-room 8 n (pictureLenAt k w) hn
 
-  picture-same : (m k : ℕ) → (m ≡ n → ⊥) → k < pictureLenAt w m
-      → getD (without s n .pictures) (pictureStart w′ m + k) 0 ≡ getD (s .pictures) (pictureStart w m + k) 0
-  unfolding without
-  picture-same m k ne h = ⊎-elim
-      (λ (lt : m < n). rw (start-below m lt) (cut-low (s .pictures) _ _ fits (pictureStart w m + k)
-      (omega (arith, room m n lt))))
-      (λ (ge : n ≤ m).
-      let e : pictureStart w′ m + pictureLenAt w n ≡ pictureStart w m = start-above m (omega arith) in
-      let r : pictureStart w n + pictureLenAt w n ≤ pictureStart w m = room n m (omega arith) in
-      let t : pictureStart w′ m + k + pictureLenAt w n ≡ pictureStart w m + k = omega arith in
-      cut-high (s .pictures) _ _ fits (pictureStart w′ m + k) (omega arith) ∙ ap (λ (z : ℕ). getD (s .pictures) z 0) t)
-      (split m n)
+    -- so much of a buffer of that length as is left
+    cut-same : (l : List ℕ) (m i : ℕ) → length l ≡ picturesLen k w → (m ≡ n → ⊥) → i < pictureLenAt k w m
+        → getD (cut (pictureStart k w n) (pictureLenAt k w n) l) (pictureStart k w′ m + i) 0
+        ≡ getD l (pictureStart k w m + i) 0
+    cut-same l m i long ne h =
+        let in-l : pictureStart k w n + pictureLenAt k w n ≤ length l = rw long fits in
+        ⊎-elim
+        (λ (lt : m < n). rw (start-below m lt) (cut-low l _ _ in-l (pictureStart k w m + i) (omega (arith, room m n lt))))
+        (λ (ge : n ≤ m).
+        let e : pictureStart k w′ m + pictureLenAt k w n ≡ pictureStart k w m = start-above m (omega arith) in
+        let r : pictureStart k w n + pictureLenAt k w n ≤ pictureStart k w m = room n m (omega arith) in
+        let t : pictureStart k w′ m + i + pictureLenAt k w n ≡ pictureStart k w m + i = omega arith in
+        cut-high l _ _ in-l (pictureStart k w′ m + i) (omega arith) ∙ ap (λ (z : ℕ). getD l z 0) t)
+        (split m n)
+
+  -- ---- the buffers, as bytes
+
+  length-buffer : (m : ℕ) → length (bufferOf s m) ≡ picturesLen (layerOf w m .floats) w
+  unfolding bufferOf
+  length-buffer m = go (layerOf w m .floats)
+    where
+      go : (t : Bool) → length (choose t (bytesFrom (s .floats)) (s .pictures)) ≡ picturesLen t w
+      go true = length-bytes (s .floats) ∙ ready .floats
+      go false = ready .pictures
+
+  buffer-cut : (m : ℕ) → (m ≡ n → ⊥) → bufferOf (without s n) m
+      ≡ cut (pictureStart (layerOf w m .floats) w n) (pictureLenAt (layerOf w m .floats) w n) (bufferOf s m)
+  unfolding bufferOf without
+  buffer-cut m ne = rw (other-m m ne) (go (layerOf w m .floats))
+    where
+      go : (t : Bool)
+          → choose t (bytesFrom (cut (pictureStart true w n) (pictureLenAt true w n) (s .floats)))
+          (cut (pictureStart false w n) (pictureLenAt false w n) (s .pictures))
+          ≡ cut (pictureStart t w n) (pictureLenAt t w n) (choose t (bytesFrom (s .floats)) (s .pictures))
+      go true = bytes-cut (pictureStart true w n) (pictureLenAt true w n) (s .floats)
+      go false = refl
+
+  start-own : (m : ℕ) → (m ≡ n → ⊥) → startAt w′ m ≡ pictureStart (layerOf w m .floats) w′ m
+  unfolding startAt
+  start-own m ne = ap (λ (l : Layer). pictureStart (l .floats) w′ m) (other-m m ne)
+
+  picture-same : (m i : ℕ) → (m ≡ n → ⊥) → i < pictureLenAt (layerOf w m .floats) w m
+      → getD (bufferOf (without s n) m) (startAt w′ m + i) 0 ≡ getD (bufferOf s m) (startAt w m + i) 0
+  unfolding startAt
+  picture-same m i ne h =
+      rw (buffer-cut m ne, start-own m ne)
+      (cut-same (layerOf w m .floats) (bufferOf s m) m i (length-buffer m) ne h)
 
   -- ---- the other layers show what they showed
 
@@ -161,11 +209,17 @@ module _ (s : Scene) (n : ℕ) (ready : Ready s) (hn : n < 8) where
       record {
         long = long;
         accepted = acc′;
+        letIn = kinds-let _ w w′ kinds (ready .letIn);
         shown = rw (words-kept .first 0 (omega arith)) (ready .shown);
         tables = ready .tables;
         pictures =
-            let c = length-cut (s .pictures) (pictureStart w n) (pictureLenAt w n) fits in
-            omega (arith, c, total, ready .pictures);
+            let c = length-cut (s .pictures) (pictureStart false w n) (pictureLenAt false w n)
+            (rw (ready .pictures) (fits false)) in
+            omega (arith, c, total false, ready .pictures);
+        floats =
+            let c = length-cut-floats (s .floats) (pictureStart true w n) (pictureLenAt true w n)
+            (rw (ready .floats) (fits true)) in
+            omega (arith, c, total true, ready .floats);
       },
       frame-same s (without s n) (λ k h. words-kept .first k (omega arith))
           (λ x y c p hc. bandBy-cong w′ w (overAt (without s n) y x c) (overAt s y x c) 0 8 p

@@ -1,13 +1,13 @@
 -- The bounds of a layer's fields, and words that stay accepted. Assumes nothing.
 use mathlib.Core.Path.{_≡_, sym, ap, subst, _∙_}
-use mathlib.Core.Bool.{true}
+use mathlib.Core.Bool.{Bool, true}
 use mathlib.Core.List.{List}
 use Prim.Native.Nat.{ℕ, _≤_, _<_}
 use native.Mathlib.Omega.{arith}
 use lib.ListN.{getD}
 use Rattle.words.specs.declared.fields.Layer.{Layer}
 use Rattle.words.specs.Fields.{widthOf, heightOf, layerOf}
-use Rattle.words.specs.Check.{Placed, Plain, Accepted}
+use Rattle.words.specs.Check.{Placed, Plain, Accepted, LetIn}
 use Rattle.words.proofs.ChangeLaws.{atDepth}
 
 pub depth-lt : (w : List ℕ) (n : ℕ) → layerOf w n .depth < 8
@@ -26,17 +26,32 @@ target-le w n = omega arith
 abbrev pub Alike : Layer → Layer → Type 0
 Alike l k = atDepth l 0 ≡ atDepth k 0
 
+-- both, or neither, is a graphics layer, and so of a float layer
+pub record SameKind (l k : Layer) : Type 0 where
+  pub graphics : l .graphics ≡ k .graphics
+  pub floats : l .floats ≡ k .floats
+
+pub alike-kind : (l k : Layer) → Alike l k → SameKind l k
+alike-kind l k e = record { graphics = ap (λ (x : Layer). x .graphics) e; floats = ap (λ (x : Layer). x .floats) e }
+
+pub kinds-let : (floats : Bool) (w w′ : List ℕ) → ((n : ℕ) → SameKind (layerOf w′ n) (layerOf w n)) → LetIn floats w
+    → LetIn floats w′
+kinds-let floats w w′ kinds l n h f = l n h (sym (kinds n .floats) ∙ f)
+
 -- ---- still accepted
 
--- plain words on the same screen, whose enabled layers lie where they did and have a depth each
+-- plain words on the same screen, whose layers are of the kinds that they were, and whose enabled layers lie where they did and
+-- have a depth each
 pub accepted-alike : (w w′ : List ℕ) → Accepted w → ((i : ℕ) → i < 52 → Plain w′ i) → getD w′ 1 0 ≡ getD w 1 0
+    → ((n : ℕ) → SameKind (layerOf w′ n) (layerOf w n))
     → ((n : ℕ) → layerOf w′ n .on ≡ true → Alike (layerOf w′ n) (layerOf w n))
     → ((n m : ℕ) → n < 8 → m < 8 → layerOf w n .on ≡ true → layerOf w m .on ≡ true
     → layerOf w′ n .on ≡ true → layerOf w′ m .on ≡ true
     → layerOf w′ n .depth ≡ layerOf w′ m .depth → n ≡ m) → Accepted w′
-accepted-alike w w′ acc plain one alike apart =
+accepted-alike w w′ acc plain one kinds alike apart =
     record {
       plain = plain;
+      kinds = λ n h f. kinds n .graphics ∙ acc .kinds n h (sym (kinds n .floats) ∙ f);
       wide = rw one (acc .wide);
       tall = rw one (acc .tall);
       placed = λ n h o. rw one (un-deep (layerOf w′ n)

@@ -1,5 +1,6 @@
 -- The laws that a buyer reads, and what they rest on. Assumes nothing.
 pub mod LayerLaws
+pub mod FloatLaws
 pub mod Bands
 pub mod Pixels
 pub mod Split

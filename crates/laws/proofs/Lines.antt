@@ -10,6 +10,7 @@ use native.Mathlib.Omega.{arith}
 use borrow.Author.Tests.{eqb-false, eq-eqb, ne-eqb, lt-ltb}
 use lib.Bits.{bitOr}
 use lib.Dec.{eqb}
+use lib.Ieee.{Float}
 use lib.ListN.{length, getD}
 use Rattle.lists.specs.Choice.{pick}
 use Rattle.lists.specs.Steps.{through}
@@ -65,19 +66,20 @@ errors-again s a b e ab b8 = go (shownOf (s .words))
 
 -- ---- a whole frame that is not refused, and its lines
 
-module _ (d : Display) (tables pictures out : List ℕ) (e : frameTold d tables pictures out .answer ≡ done) where
+module _ (d : Display) (tables pictures : List ℕ) (floats : List Float) (out : List ℕ)
+    (e : frameTold d tables pictures floats out .answer ≡ done) where
   abbrev s : Scene
-  s = sceneWith d tables pictures
+  s = sceneWith d tables pictures floats
 
   passes : painting.refusalOf s 0 8 out ≡ done
   unfolding frameTold paintTold
   passes = e
 
-  frame-bytes : frameBytes d tables pictures out ≡ painting.frameOf s
+  frame-bytes : frameBytes d tables pictures floats out ≡ painting.frameOf s
   unfolding frameBytes painting.frameAfter
   frame-bytes = rw passes
 
-  frame-told : frameTold d tables pictures out ≡ told (withErrors d (errorsOf s 0 8 (d .errors))) done
+  frame-told : frameTold d tables pictures floats out ≡ told (withErrors d (errorsOf s 0 8 (d .errors))) done
   unfolding frameTold paintTold painting.errorsAfter
   frame-told = rw passes
 
@@ -85,7 +87,7 @@ module _ (d : Display) (tables pictures out : List ℕ) (e : frameTold d tables 
     line-passes : lineRefusalOf s y line ≡ done
     unfolding lineRefusal
     line-passes =
-        let f = paint-fits _ _ _ _ _ _ _ passes in
+        let f = paint-fits _ _ _ _ _ _ _ _ passes in
         let w : widthOf (d .active) ≡ 0 → ⊥ = λ z. omega (arith, f .wide) in
         let t : heightOf (d .active) ≡ 0 → ⊥ = λ z. omega arith in
         rw (
@@ -95,21 +97,22 @@ module _ (d : Display) (tables pictures out : List ℕ) (e : frameTold d tables 
           eq-eqb _ _ long,
           eq-eqb _ _ (f .lent),
           eq-eqb _ _ (f .shown),
+          eq-eqb _ _ (f .flows),
         )
 
     -- whatever the error word
-    line-bytes : (errors : ℕ) → lineBytes (withErrors d errors) y tables pictures line ≡ frameLine s y
+    line-bytes : (errors : ℕ) → lineBytes (withErrors d errors) y tables pictures floats line ≡ frameLine s y
     unfolding lineBytes lineAfter
     line-bytes errors = rw line-passes
 
     line-told : (errors : ℕ)
-        → lineTold (withErrors d errors) y tables pictures line ≡ told (withErrors d (errorsOf s 0 8 errors)) done
+        → lineTold (withErrors d errors) y tables pictures floats line ≡ told (withErrors d (errorsOf s 0 8 errors)) done
     unfolding lineTold lineErrorsAfter
     line-told errors = rw line-passes
 
     -- a line has the whole frame's bytes there, its answer and its state
-    pub line-frame : (lineBytes d y tables pictures line ≡ rowIn (d .active) y (frameBytes d tables pictures out))
-        × (lineTold d y tables pictures line ≡ frameTold d tables pictures out)
+    pub line-frame : (lineBytes d y tables pictures floats line ≡ rowIn (d .active) y (frameBytes d tables pictures floats out))
+        × (lineTold d y tables pictures floats line ≡ frameTold d tables pictures floats out)
     unfolding frameLine
     line-frame = (
       line-bytes (d .errors) ∙ ap (rowIn (d .active) y) (sym frame-bytes),
@@ -123,7 +126,7 @@ module _ (d : Display) (tables pictures out : List ℕ) (e : frameTold d tables 
   frameByte i p = getD (painting.frameOf s) i 0
 
   long-out : length out ≡ painting.frameLen (d .active)
-  long-out = paint-fits _ _ _ _ _ _ _ passes .long
+  long-out = paint-fits _ _ _ _ _ _ _ _ passes .long
 
   -- the screen has lines, and these have pixels
   tall : 0 < heightOf (d .active)
@@ -135,7 +138,7 @@ module _ (d : Display) (tables pictures out : List ℕ) (e : frameTold d tables 
       omega arith
 
   some : 0 < lineLen (d .active)
-  some = let f = paint-fits _ _ _ _ _ _ _ passes in omega (arith, f .wide)
+  some = let f = paint-fits _ _ _ _ _ _ _ _ passes in omega (arith, f .wide)
 
   row-laid : (y : ℕ) (room : List ℕ) → y < heightOf (d .active) → length room ≡ painting.frameLen (d .active)
       → withRow (d .active) y (frameLine s y) room ≡ each (onRow (lineLen (d .active)) frameByte y) room
@@ -150,7 +153,7 @@ module _ (d : Display) (tables pictures out : List ℕ) (e : frameTold d tables 
       (λ i p lt. refl)
 
   step-is : (errors y : ℕ) (room : List ℕ) → y < heightOf (d .active) → length room ≡ painting.frameLen (d .active)
-      → lineStep tables pictures y (panel (withErrors d errors) room)
+      → lineStep tables pictures floats y (panel (withErrors d errors) room)
       ≡ panel (withErrors d (errorsOf s 0 8 errors)) (each (onRow (lineLen (d .active)) frameByte y) room)
   step-is errors y room h long =
       let L = lineLen (d .active) in
@@ -215,7 +218,7 @@ module _ (d : Display) (tables pictures out : List ℕ) (e : frameTold d tables 
       (same-or (i / L) y)
 
   lines-laid : (ys : List ℕ) (errors : ℕ) (room : List ℕ) → Lines ys → length room ≡ painting.frameLen (d .active)
-      → Laid ys errors room (paintedLines tables pictures ys (panel (withErrors d errors) room))
+      → Laid ys errors room (paintedLines tables pictures floats ys (panel (withErrors d errors) room))
   unfolding paintedLines
   lines-laid [] errors room lines long =
       record {
@@ -237,8 +240,8 @@ module _ (d : Display) (tables pictures out : List ℕ) (e : frameTold d tables 
 
   -- all lines, in any order, each at least once, give the whole frame's bytes and state
   pub lines-frame : (ys : List ℕ) → AllLines (d .active) ys
-      → (paintedLines tables pictures ys (panel d out) .out ≡ frameBytes d tables pictures out)
-      × (paintedLines tables pictures ys (panel d out) .state ≡ frameTold d tables pictures out .state)
+      → (paintedLines tables pictures floats ys (panel d out) .out ≡ frameBytes d tables pictures floats out)
+      × (paintedLines tables pictures floats ys (panel d out) .state ≡ frameTold d tables pictures floats out .state)
   lines-frame ys a =
       let n = painting.frameLen (d .active) in
       let L = lineLen (d .active) in
@@ -257,14 +260,15 @@ module _ (d : Display) (tables pictures out : List ℕ) (e : frameTold d tables 
 
 -- ---- with the display off
 
-pub line-off : (d : Display) (y : ℕ) (tables pictures line : List ℕ) → lineTold d y tables pictures line .answer ≡ done
+pub line-off : (d : Display) (y : ℕ) (tables pictures : List ℕ) (floats : List Float) (line : List ℕ)
+    → lineTold d y tables pictures floats line .answer ≡ done
     → shownOf (d .active) ≡ false
-    → (lineBytes d y tables pictures line ≡ tab (lineLen (d .active)) (painting.fillByte (d .active)))
-    × (lineTold d y tables pictures line .state ≡ d)
+    → (lineBytes d y tables pictures floats line ≡ tab (lineLen (d .active)) (painting.fillByte (d .active)))
+    × (lineTold d y tables pictures floats line .state ≡ d)
 unfolding lineTold lineBytes lineErrorsAfter lineAfter errorsOf
-line-off d y tables pictures line e off =
-    let s = sceneWith d tables pictures in
-    let f = line-fits _ _ _ _ _ _ e in (
+line-off d y tables pictures floats line e off =
+    let s = sceneWith d tables pictures floats in
+    let f = line-fits _ _ _ _ _ _ _ e in (
       rw e (is-tab (frameLine s y) _ _ (length-frameLine s y (f .number)) (λ i h.
           frameLine-at s y i h
           ∙ frameOf-at s (y * lineLen (d .active) + i) (omega (arith, line-room (d .active) y (f .number)))

@@ -14,10 +14,11 @@ use Rattle.mix.proofs.BlendLaws.{blendOf-opaque}
 use Rattle.words.specs.declared.fields.Layer.{Layer}
 use Rattle.words.specs.Fields.{layerOf}
 use Rattle.words.specs.Order.{here}
-use Rattle.words.specs.Pictures.{pictureLen, pictureLenAt, pictureStart}
+use Rattle.words.specs.Pictures.{pictureLen, pictureLenAt, pictureStart, startAt}
 use Rattle.frames.specs.Scene.{Scene}
 use Rattle.profiles.specs.Profile.{bitsOf}
-use Rattle.frames.specs.Pixel.{bankBytes, colourIndex, graphicsAt, pictureAt, ownAt, alphaAt, covers, overAt}
+use Rattle.frames.specs.Pixel.{bankBytes, colourIndex, graphicsAt, bufferOf, pictureAt, ownAt, alphaAt, covers}
+use Rattle.frames.specs.Pixel.{overAt}
 use Rattle.frames.specs.Band.{layerStep, depthStep, pixelAt}
 use Rattle.frames.proofs.PixelLaws.{covers-covered, over-inside}
 use Rattle.laws.specs.Painting.{Ready, IsLayer, OnScreen, channelAt, ownOver, OpaqueAt, OtherUnder}
@@ -102,16 +103,17 @@ opaque s t n y x c rs rt o agree on = channel-same s t n x y rs rt o agree c on
 
 module _ (s t : Scene) (d : ℕ) (other : OtherUnder s t d) where
   -- pictures stand where they stood
-  pictureLen-same : (m : ℕ) → m < 8 → pictureLenAt (t .words) m ≡ pictureLenAt (s .words) m
+  pictureLen-same : (k : Bool) (m : ℕ) → m < 8 → pictureLenAt k (t .words) m ≡ pictureLenAt k (s .words) m
   unfolding pictureLenAt pictureLen
-  pictureLen-same m h = ⊎-elim
-      (λ (lt : layerOf (s .words) m .depth < d). ap pictureLen (other .under m h lt))
-      (λ (ge : d ≤ layerOf (s .words) m .depth). ap pictureLen (other .above m h ge))
+  pictureLen-same k m h = ⊎-elim
+      (λ (lt : layerOf (s .words) m .depth < d). ap (pictureLen k) (other .under m h lt))
+      (λ (ge : d ≤ layerOf (s .words) m .depth). ap (pictureLen k) (other .above m h ge))
       (split (layerOf (s .words) m .depth) d)
 
-  pictureStart-same : (m : ℕ) → m < 8 → pictureStart (t .words) m ≡ pictureStart (s .words) m
-  unfolding pictureStart
-  pictureStart-same m h = sum-cong m _ _ (λ k lt. pictureLen-same k (omega arith))
+  start-same : (m : ℕ) → m < 8 → layerOf (t .words) m ≡ layerOf (s .words) m → startAt (t .words) m ≡ startAt (s .words) m
+  unfolding startAt pictureStart
+  start-same m h e =
+      rw e (sum-cong m _ _ (λ n lt. pictureLen-same (layerOf (s .words) m .floats) n (omega arith)))
 
   bankBytes-same : (m kind : ℕ) → m < 8 → d ≤ layerOf (s .words) m .depth
       → bankBytes (bitsOf (t .profile)) (t .words) (t .tables) m kind
@@ -142,12 +144,13 @@ module _ (s t : Scene) (d : ℕ) (other : OtherUnder s t d) where
 
   own-same : (m u v c : ℕ) → From (s .words) d m → u < layerOf (s .words) m .width
       → v < layerOf (s .words) m .height → c < 4 → ownAt t m v u c ≡ ownAt s m v u c
-  unfolding ownAt graphicsAt colourIndex pictureAt
+  unfolding ownAt graphicsAt colourIndex pictureAt bufferOf
   own-same m u v c f hu hv hc =
       let hm = f .layer .number in
+      let e = other .above m hm (f .depth) in
       rw (
-        other .above m hm (f .depth),
-        pictureStart-same m hm,
+        e,
+        start-same m hm e,
         bankBytes-same m 0 hm (f .depth),
         bankBytes-same m 1 hm (f .depth),
         bankBytes-same m 2 hm (f .depth),
@@ -155,8 +158,8 @@ module _ (s t : Scene) (d : ℕ) (other : OtherUnder s t d) where
         other .profile,
       )
       (pick-cong (layerOf (s .words) m .graphics) (λ g. refl)
-      (λ g. other .pictures m (4 * (v * layerOf (s .words) m .width + u) + c) hm (f .depth)
-      (picture-room (s .words) m u v c (f .layer .on) g hu hv hc)))
+      (λ g. rw e at (other .pictures m (4 * (v * layerOf (s .words) m .width + u) + c) hm (f .depth)
+      (picture-room (s .words) m u v c (f .layer .on) g hu hv hc))))
 
   alpha-same : (m u v : ℕ) → From (s .words) d m → u < layerOf (s .words) m .width
       → v < layerOf (s .words) m .height → alphaAt t m v u ≡ alphaAt s m v u

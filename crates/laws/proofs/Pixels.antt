@@ -18,18 +18,20 @@ use Rattle.mix.specs.Blend.{blendOf}
 use Rattle.mix.proofs.BlendLaws.{blendOf-clear}
 use Rattle.words.specs.declared.fields.Layer.{Layer}
 use Rattle.words.specs.Fields.{shownOf, widthOf, heightOf, groundOf, layerOf}
-use Rattle.words.specs.Pictures.{pictureLen, pictureLenAt, pictureStart, picturesLen}
+use Rattle.words.specs.Pictures.{pictureLen, pictureLenAt, pictureStart, picturesLen, startAt}
+use Rattle.words.proofs.PictureLaws.{own-len}
 use Rattle.words.specs.Check.{Accepted}
 use Rattle.draw.specs.Drawing.{endedOf}
 use Rattle.frames.specs.Scene.{Scene}
 use Rattle.profiles.specs.Profile.{bitsOf}
-use Rattle.frames.specs.Pixel.{bankBytes, colourIndex, graphicsAt, pictureAt, ownAt, fadedOf, alphaAt, covers, overAt}
+use Rattle.frames.specs.Pixel.{bankBytes, colourIndex, graphicsAt, bufferOf, pictureAt, ownAt, fadedOf}
+use Rattle.frames.specs.Pixel.{alphaAt, covers, overAt}
 use Rattle.frames.specs.Band.{pixelAt, bandByte, bandOf, missing, markAt}
 use Rattle.frames.specs.Frame.{frameLen, paintRefusal, refusalOf, fillByte, fillOf, frameOf}
 use Rattle.lists.proofs.Digits.{row-room}
 use Rattle.frames.proofs.PixelLaws.{Covered, covers-covered, covered-covers, over-inside, over-outside}
 use Rattle.laws.specs.Painting.{Ready, OnScreen, channelAt, withWords, Clear}
-use Rattle.laws.proofs.LayerLaws.{Alike}
+use Rattle.laws.proofs.LayerLaws.{Alike, alike-kind, kinds-let}
 
 -- ---- what is ready is painted
 
@@ -47,23 +49,19 @@ ready-done s a b out r ab b8 lo =
       eq-eqb _ _ lo,
       eq-eqb _ _ (r .tables),
       eq-eqb _ _ (r .pictures),
+      eq-eqb _ _ (r .floats),
     )
 
 -- ---- where a layer's own pixels stand
 
--- the picture bytes of a layer that is a frame layer
-pub pictureLenAt-frame : (w : List ℕ) (n : ℕ) → layerOf w n .on ≡ true → layerOf w n .graphics ≡ false
-    → pictureLenAt w n ≡ 4 * (layerOf w n .width * layerOf w n .height)
-unfolding pictureLenAt pictureLen
-pictureLenAt-frame w n o g = rw (o, g)
-
--- a pixel of it lies among them
+-- a pixel of a frame layer lies among the numbers of its picture
 pub picture-room : (w : List ℕ) (n u v c : ℕ) → layerOf w n .on ≡ true → layerOf w n .graphics ≡ false
-    → u < layerOf w n .width → v < layerOf w n .height → c < 4 → 4 * (v * layerOf w n .width + u) + c < pictureLenAt w n
+    → u < layerOf w n .width → v < layerOf w n .height → c < 4
+    → 4 * (v * layerOf w n .width + u) + c < pictureLenAt (layerOf w n .floats) w n
 picture-room w n u v c o g hu hv hc =
     omega (
       arith,
-      pictureLenAt-frame w n o g,
+      own-len w n o g,
       row-room v (layerOf w n .height) (layerOf w n .width) hv,
       mul-comm (layerOf w n .width) (layerOf w n .height),
     )
@@ -118,26 +116,37 @@ module _ (s s′ : Scene) (n : ℕ) (same : Alike (layerOf (s′ .words) n) (lay
 
 module _ (s : Scene) (w′ : List ℕ) (alike : (n : ℕ) → Alike (layerOf w′ n) (layerOf (s .words) n))
     (banks : getD w′ 3 0 ≡ getD (s .words) 3 0) where
-  pictureLen-alike : (n : ℕ) → pictureLenAt w′ n ≡ pictureLenAt (s .words) n
+  pictureLen-alike : (k : Bool) (n : ℕ) → pictureLenAt k w′ n ≡ pictureLenAt k (s .words) n
   unfolding pictureLenAt pictureLen
-  pictureLen-alike n = ap pictureLen (alike n)
+  pictureLen-alike k n = ap (pictureLen k) (alike n)
 
-  pictureStart-alike : (n : ℕ) → pictureStart w′ n ≡ pictureStart (s .words) n
-  unfolding pictureStart
-  pictureStart-alike n = sum-cong n _ _ (λ m h. pictureLen-alike m)
+  floats-alike : (n : ℕ) → layerOf w′ n .floats ≡ layerOf (s .words) n .floats
+  floats-alike n = alike-kind (layerOf w′ n) (layerOf (s .words) n) (alike n) .floats
 
-  picturesLen-alike : picturesLen w′ ≡ picturesLen (s .words)
+  start-alike : (n : ℕ) → startAt w′ n ≡ startAt (s .words) n
+  unfolding startAt pictureStart
+  start-alike n = rw (floats-alike n) (sum-cong n _ _ (λ m h. pictureLen-alike (layerOf (s .words) n .floats) m))
+
+  picturesLen-alike : (k : Bool) → picturesLen k w′ ≡ picturesLen k (s .words)
   unfolding picturesLen
-  picturesLen-alike = sum-cong 8 _ _ (λ m h. pictureLen-alike m)
+  picturesLen-alike k = sum-cong 8 _ _ (λ m h. pictureLen-alike k m)
+
+  buffer-alike : (n : ℕ) → bufferOf (withWords s w′) n ≡ bufferOf s n
+  unfolding bufferOf
+  buffer-alike n = rw (floats-alike n)
 
   pub ready-alike : Ready s → length w′ ≡ 52 → Accepted w′ → getD w′ 0 0 ≡ getD (s .words) 0 0 → Ready (withWords s w′)
   ready-alike r l a e =
       record {
         long = l;
         accepted = a;
+        letIn =
+            kinds-let (s .profile .floats) (s .words) w′ (λ n. alike-kind (layerOf w′ n) (layerOf (s .words) n) (alike n))
+            (r .letIn);
         shown = rw e (r .shown);
         tables = r .tables;
-        pictures = r .pictures ∙ sym picturesLen-alike;
+        pictures = r .pictures ∙ sym (picturesLen-alike false);
+        floats = r .floats ∙ sym (picturesLen-alike true);
       }
 
   bankBytes-alike : (tables : List ℕ) (kind n : ℕ) → bankBytes (bitsOf (s .profile)) w′ tables n kind
@@ -149,14 +158,15 @@ module _ (s : Scene) (w′ : List ℕ) (alike : (n : ℕ) → Alike (layerOf w�
   unfolding ownAt graphicsAt colourIndex pictureAt
   own-alike n u v c =
       rw (
-        pictureStart-alike n,
+        start-alike n,
+        buffer-alike n,
         bankBytes-alike (s .tables) 0 n,
         bankBytes-alike (s .tables) 1 n,
         bankBytes-alike (s .tables) 2 n,
         bankBytes-alike (s .tables) 3 n,
       )
       (ap (λ (l : Layer). pick (l .graphics) (graphicsAt (bitsOf (s .profile)) (s .words) (s .tables) n v u c)
-      (getD (s .pictures) (pictureStart (s .words) n + (4 * (v * l .width + u) + c)) 0)) (alike n))
+      (getD (bufferOf s n) (startAt (s .words) n + (4 * (v * l .width + u) + c)) 0)) (alike n))
 
   pub over-alike : (x y c n p : ℕ) → c < 4 → overAt (withWords s w′) y x c n p ≡ overAt s y x c n p
   over-alike x y c n p hc =

@@ -76,6 +76,12 @@ or-passed a b z = rw z
 or-given : (a b : ℕ) → ¬ (a ≡ 0) → orElse a b ≡ a
 or-given a b ne = rw (ne-eqb a 0 ne)
 
+-- of three the first two are taken together
+pub or-or : (a b c : ℕ) → orElse a (orElse b c) ≡ orElse (orElse a b) c
+or-or a b c = ⊎-elim
+    (λ (z : a ≡ 0). rw z)
+    (λ (ne : ¬ (a ≡ 0)). rw (ne-eqb a 0 ne, ne-eqb a 0 ne)) (same-or a 0)
+
 pub misses-or : (a b r : ℕ) → Misses a r → Misses b r → Misses (orElse a b) r
 misses-or a b r f g q = ⊎-elim
     (λ (z : a ≡ 0). or-passed a b z ∙ g (sym (or-passed a b z) ∙ q))
@@ -116,7 +122,7 @@ module _ {P : Type 0} {x k : ℕ} (nz : eqb k 0 ≡ false) where
 
 -- ---- refusals of words, or of layers, one after another
 
-tells-or : {P Q : Type 0} {k : ℕ} (a b : ℕ) → eqb k 0 ≡ false → Tells a k P → Tells b k Q → Tells (orElse a b) k (P ⊎ Q)
+pub tells-or : {P Q : Type 0} {k : ℕ} (a b : ℕ) → eqb k 0 ≡ false → Tells a k P → Tells b k Q → Tells (orElse a b) k (P ⊎ Q)
 tells-or a b nz (given e p) t = given (or-given a b (over-zero nz e) ∙ e) (inl p)
 tells-or a b nz (passed z n) (given e q) = given (or-passed a b z ∙ e) (inr q)
 tells-or a b nz (passed z n) (passed e m) = passed (or-passed a b z ∙ e) (⊎-elim n m)

@@ -2,6 +2,7 @@
 -- computing. Assumes nothing.
 use Prim.Native.Nat.{ℕ, _<_}
 use mathlib.Core.Path.{_≡_, refl, sym, ap, _∙_}
+use mathlib.Core.Bool.{false}
 use mathlib.Core.List.{List, [], _∷_, _++_}
 use native.Mathlib.Omega.{arith}
 use borrow.Author.Tests.{eq-eqb, ne-eqb}
@@ -15,11 +16,11 @@ use Rattle.lists.specs.Little.{littleAt}
 use Rattle.lists.specs.Tab.{tab, each}
 use Rattle.answers.specs.Answers.{done, emptyScreen}
 use Rattle.words.specs.Fields.{layerOf}
-use Rattle.words.specs.Check.{reservedAt, screenOf, placeOf, placeAt, clashOf, clashAt, clashBelow, checkOf}
-use Rattle.words.specs.Pictures.{pictureLen, pictureLenAt, pictureStart, picturesLen}
+use Rattle.words.specs.Check.{reservedAt, kindOf, kindAt, screenOf, placeOf, placeAt, clashOf, clashAt, clashBelow, checkOf}
+use Rattle.words.specs.Pictures.{pictureLen, pictureLenAt, pictureStart, picturesLen, startAt}
 use Rattle.tables.specs.Geometry.{tablesLen, bankLen, kindLen}
 use Rattle.mix.specs.Blend.{blendOf}
-use Rattle.frames.specs.Pixel.{overAt, covers, alphaAt, ownAt, pictureAt}
+use Rattle.frames.specs.Pixel.{overAt, covers, alphaAt, ownAt, bufferOf, pictureAt}
 use Rattle.frames.specs.Band.{layerStep, depthStep, bandBy, bandByte, bandOf, markAt, missing, errorsOf}
 use Rattle.frames.specs.Frame as painting
 use Rattle.frames.specs.Line.{lineRefusal, lineRefusalOf, frameLine, lineAfter, lineErrorsAfter}
@@ -52,13 +53,13 @@ use Rattle.laws.specs.Small.{lined, Frames, Scans, Hosts, Prints, Finish
 -- ---- what is unfolded to compute: the words, a frame, a line
 
 unfoldable pub wordsOpen : Unit {0}
-unfolding checkOf firstOf reservedAt screenOf placeAt placeOf clashBelow clashAt clashOf layerOf picturesLen
+unfolding checkOf firstOf reservedAt kindAt kindOf screenOf placeAt placeOf clashBelow clashAt clashOf layerOf picturesLen
     pictureLenAt pictureLen sumOf
 wordsOpen = tt
 
 unfoldable pub frameOpen : Unit {0}
 unfolding wordsOpen painting.frameOf painting.fillOf painting.fillByte bandOf bandByte bandBy depthStep layerStep run
-    tab each overAt covers alphaAt ownAt pictureAt pictureStart blendOf
+    tab each overAt covers alphaAt ownAt pictureAt bufferOf startAt pictureStart blendOf
 frameOpen = tt
 
 unfoldable pub lineOpen : Unit {0}
@@ -75,16 +76,16 @@ writtenTo-reached r [] = r
 writtenTo-reached r (w ∷ rest) = writtenTo-reached (by-write (w .register) (w .value) r) rest
 
 pub written-reached : (ground : ℕ) → Reached (written ground)
-written-reached ground = writtenTo-reached (by-new 1) (onePixel ground)
+written-reached ground = writtenTo-reached (by-new 1 false) (onePixel ground)
 
 pub started-reached : (ground : ℕ) → Reached (started ground)
 started-reached ground = by-start (written-reached ground)
 
 pub sizeless-reached : Reached sizeless
-sizeless-reached = by-write 0 4 (by-new 1)
+sizeless-reached = by-write 0 4 (by-new 1 false)
 
 pub selecting-reached : Reached selecting
-selecting-reached = by-select 1 (by-new 1)
+selecting-reached = by-select 1 (by-new 1 false)
 
 -- ---- each call is accepted
 
@@ -137,11 +138,11 @@ module _ (pictures : List ℕ) (two : length pictures ≡ 8) where
   unfolding wordsOpen painting.paintRefusal
   passes = rw (eq-eqb _ _ blank-long, two)
 
-  pub paint-accepted : paintTold (started grey) 0 8 blank pictures filled .answer ≡ done
+  pub paint-accepted : paintTold (started grey) 0 8 blank pictures [] filled .answer ≡ done
   unfolding paintTold painting.errorsAfter
   paint-accepted = passes
 
-  pub frame-accepted : frameTold (started grey) blank pictures filled .answer ≡ done
+  pub frame-accepted : frameTold (started grey) blank pictures [] filled .answer ≡ done
   unfolding frameTold paintTold painting.errorsAfter
   frame-accepted = passes
 
@@ -149,7 +150,7 @@ module _ (pictures : List ℕ) (two : length pictures ≡ 8) where
   unfolding wordsOpen lineRefusal
   line-passes = rw (eq-eqb _ _ blank-long, two)
 
-  pub line-accepted : lineTold (started grey) 0 blank pictures filled .answer ≡ done
+  pub line-accepted : lineTold (started grey) 0 blank pictures [] filled .answer ≡ done
   unfolding lineTold lineErrorsAfter
   line-accepted = line-passes
 

@@ -1,13 +1,14 @@
 -- The laws at work on screens of 2 by 1 pixels, and screens that break them where a hypothesis is
 -- dropped, by computing. Assumes nothing.
-use mathlib.Core.Path.{_≡_, refl, sym, _∙_}
-use mathlib.Core.Bool.{true}
+use mathlib.Core.Path.{_≡_, refl, sym, ap, _∙_}
+use mathlib.Core.Bool.{true, false}
 use mathlib.Core.Logic.{⊎-elim}
 use mathlib.Core.List.{List, [], _∷_, _++_}
 use Prim.Native.Nat.{ℕ, zero, suc, _≤_, _<_}
 use native.Mathlib.Omega.{arith}
 use borrow.Author.Tests.{ne-eqb, lt-ltb}
 use lib.Dec.{eqb, ltb}
+use lib.Ieee.{ofBits}
 use lib.ListN.{length, getD, replicate, length-append, length-replicate}
 use lib.Seq.{getD-append-add}
 use Rattle.lists.specs.Choice.{pick, both}
@@ -21,15 +22,19 @@ use Rattle.mix.specs.Pixel.{channels}
 use Rattle.mix.specs.Blend.{blendOf}
 use Rattle.mix.specs.Fade.{fadeOf, fadeAt}
 use Rattle.words.proofs.CheckLaws.{check-accepted}
+use Rattle.river.specs.River.{byteOf}
 use Rattle.words.specs.Fields.{shownOf, layerOf}
 use Rattle.words.specs.Check.{reservedAt, screenOf, placeOf, placeAt, clashOf, clashAt, clashBelow, checkOf, Accepted}
-use Rattle.words.specs.Pictures.{pictureLen, pictureLenAt, pictureStart, picturesLen}
+use Rattle.words.specs.Check as check
+use Rattle.words.specs.Pictures.{pictureLen, pictureLenAt, pictureStart, picturesLen, startAt}
+use Rattle.profiles.specs.declared.Profile.{Profile}
 use Rattle.profiles.specs.Profile.{oneBit}
 use Rattle.tables.specs.Geometry.{tablesLen, bankLen, kindAt, kindLen}
 use Rattle.draw.specs.Box.{boxAfter, boxOf}
 use Rattle.draw.specs.Drawing.{drawnBy, drawnTo, countOf, indexAt}
 use Rattle.frames.specs.Scene.{Scene}
-use Rattle.frames.specs.Pixel.{bankBytes, colourIndex, graphicsAt, pictureAt, ownAt, alphaAt, covers, overAt}
+use Rattle.frames.specs.Pixel.{bankBytes, colourIndex, graphicsAt, bufferOf, pictureAt, ownAt, alphaAt, covers}
+use Rattle.frames.specs.Pixel.{overAt}
 use Rattle.frames.specs.Band.{layerStep, depthStep, bandBy, bandByte, bandOf}
 use Rattle.frames.specs.Frame.{fillByte, fillOf, frameOf}
 use Rattle.frames.proofs.PixelLaws.{covers-covered}
@@ -39,7 +44,7 @@ use Rattle.laws.specs.Painting.{OpaqueAt, OtherUnder, Clear, without, Ar
 use Rattle.laws.specs.Painting.{greatestStep, leastAt, greatestAt, Between}
 use Rattle.laws.specs.Worked.{dot, words, brown, red, apart, wideApart, shared, lit, sand, ink, none, boxIn}
 use Rattle.laws.specs.Worked.{sceneOn, beside, wideBeside, halves, covered, relaid, fadedAt, relaidAt, veiled}
-use Rattle.laws.specs.Worked.{drawnScene}
+use Rattle.laws.specs.Worked.{flowScene, drawnScene}
 use Rattle.words.proofs.ChangeLaws.{layer-other}
 use Rattle.laws.proofs.Exchange.{exchange}
 use Rattle.laws.proofs.Opaque.{opaque-under}
@@ -49,12 +54,12 @@ use Rattle.laws.proofs.Between.{between}
 -- ---- what is unfolded to compute: the acceptance of words, a layer's alpha, a frame, a drawing
 
 unfoldable acceptOpen : Unit {0}
-unfolding checkOf firstOf reservedAt screenOf placeAt placeOf clashBelow clashAt clashOf layerOf picturesLen
-    pictureLenAt pictureLen sumOf
+unfolding checkOf firstOf reservedAt check.kindAt check.kindOf screenOf placeAt placeOf clashBelow clashAt clashOf layerOf
+    picturesLen pictureLenAt pictureLen sumOf
 acceptOpen = tt
 
 unfoldable alphaOpen : Unit {0}
-unfolding alphaAt ownAt pictureAt pictureStart pictureLenAt pictureLen sumOf covers layerOf fadeOf fadeAt
+unfolding alphaAt ownAt pictureAt bufferOf startAt pictureStart pictureLenAt pictureLen sumOf covers layerOf fadeOf fadeAt
 alphaOpen = tt
 
 unfoldable frameOpen : Unit {0}
@@ -69,24 +74,27 @@ drawOpen = tt
 
 -- with tables of zeros
 ready-of : (s : Scene) → length (s .words) ≡ 52 → Accepted (s .words) → shownOf (s .words) ≡ true
-    → length (s .pictures) ≡ picturesLen (s .words) → s .profile ≡ oneBit → s .tables ≡ none → Ready s
-ready-of s long accepted shown pictures one e =
+    → length (s .pictures) ≡ picturesLen false (s .words) → length (s .floats) ≡ picturesLen true (s .words)
+    → s .profile ≡ oneBit true → s .tables ≡ none → Ready s
+ready-of s long accepted shown pictures floats one e =
     record {
       long = long;
       accepted = accepted;
+      letIn = λ n h f. ap (λ (q : Profile). q .floats) one;
       shown = shown;
       tables = rw (one, e) (length-replicate {A = ℕ} (tablesLen 1) 0);
       pictures = pictures;
+      floats = floats;
     }
 
 -- accepted, with right buffers, whatever the pixels
 ready-apart : (p q : ℕ) → Ready (sceneOn apart (sand p) (ink q))
 unfolding acceptOpen
-ready-apart p q = ready-of _ refl (check-accepted _ refl) refl refl refl refl
+ready-apart p q = ready-of _ refl (check-accepted _ true refl) refl refl refl refl refl
 
 ready-shared : (p q : ℕ) → Ready (sceneOn shared (sand p) (ink q))
 unfolding acceptOpen
-ready-shared p q = ready-of _ refl (check-accepted _ refl) refl refl refl refl
+ready-shared p q = ready-of _ refl (check-accepted _ true refl) refl refl refl refl refl
 
 -- ---- split
 
@@ -149,7 +157,7 @@ wide-neighbours =
 
 ready-wide : (p q : ℕ) → Ready (sceneOn wideApart (sand p) (ink q))
 unfolding acceptOpen
-ready-wide p q = ready-of _ refl (check-accepted _ refl) refl refl refl refl
+ready-wide p q = ready-of _ refl (check-accepted _ true refl) refl refl refl refl refl
 
 -- layers with depths free between them: the one at depth 1 takes 5, the other 1, and the frame stays
 pub exchange-gap : (exchanged wideApart 0 1 ≡ words brown (dot 5 0) (dot 1 1))
@@ -162,7 +170,7 @@ exchange-gap = (refl, exchange wideBeside 0 1 (ready-wide 128 128) wide-neighbou
 -- another background, and other pixels and alphas of layer 0
 ready-lit : (p q : ℕ) → Ready (sceneOn lit (ink p) (ink q))
 unfolding acceptOpen
-ready-lit p q = ready-of _ refl (check-accepted _ refl) refl refl refl refl
+ready-lit p q = ready-of _ refl (check-accepted _ true refl) refl refl refl refl refl
 
 -- of the eight layers only layer 1 is at depth 1 or above
 upper : (m : ℕ) → m < 8 → 1 ≤ layerOf shared m .depth → m ≡ 1
@@ -176,9 +184,17 @@ upper m h d = ⊎-elim (λ (e : m ≡ 1). e) (λ (ne : m ≡ 1 → ⊥).
 lit-layer : (m : ℕ) → layerOf lit m ≡ layerOf shared m
 lit-layer m = layer-other shared 2 m red (λ j lo hi q. omega arith)
 
-start-one : pictureStart shared 1 ≡ 4
-unfolding pictureStart pictureLenAt pictureLen sumOf layerOf
+start-one : startAt shared 1 ≡ 4
+unfolding startAt pictureStart pictureLenAt pictureLen sumOf layerOf
 start-one = refl
+
+covered-buffer : bufferOf (covered 255) 1 ≡ sand 128 ++ ink 255
+unfolding bufferOf layerOf
+covered-buffer = refl
+
+relaid-buffer : bufferOf (relaid 255) 1 ≡ ink 7 ++ ink 255
+unfolding bufferOf layerOf
+relaid-buffer = refl
 
 other-under : OtherUnder (covered 255) (relaid 255) 1
 other-under =
@@ -190,7 +206,7 @@ other-under =
       above = λ m h d. lit-layer m;
       under = λ m h d. rw (lit-layer m);
       tables = λ m kind h d. refl;
-      pictures = λ m k h d lt. rw (upper m h d, start-one)
+      pictures = λ m k h d lt. rw (upper m h d, start-one, relaid-buffer, covered-buffer)
           (getD-append-add (ink 7) (ink 255) k 0 ∙ sym (getD-append-add (sand 128) (ink 255) k 0));
     }
 
@@ -260,10 +276,12 @@ unfolding acceptOpen
 ready-drawn alpha =
     record {
       long = refl;
-      accepted = check-accepted _ refl;
+      accepted = check-accepted _ true refl;
+      letIn = λ n h f. refl;
       shown = refl;
       tables = box-long (sand alpha) refl;
       pictures = refl;
+      floats = refl;
     }
 
 -- withdrawn it leaves the frame; in a colour that is not clear it does not
@@ -271,6 +289,26 @@ pub invisible-graphics : (frameOf (without (drawnScene 0) 0) ≡ frameOf (drawnS
     × ((channelAt (drawnScene 0) 0 0 0 ∷ channelAt (drawnScene 255) 0 0 0 ∷ []) ≡ 16 ∷ 200 ∷ [])
 unfolding frameOpen drawOpen tablesLen bankLen
 invisible-graphics = (invisible (drawnScene 0) 0 (omega arith) (ready-drawn 0) no-colour .1, refl)
+
+-- a float layer of alpha 0: the frame stays, and the floats are without its picture
+ready-flow : (alpha : ℕ) → Ready (flowScene alpha)
+unfolding acceptOpen
+ready-flow alpha = ready-of _ refl (check-accepted _ true refl) refl refl refl refl refl
+
+no-flow : Clear (flowScene 0) 0
+unfolding alphaOpen byteOf ofBits
+no-flow v u hv hu = let a : u ≡ 0 = omega arith in let b : v ≡ 0 = omega arith in rw (a, b)
+
+pub invisible-floats : (frameOf (without (flowScene 0) 0) ≡ frameOf (flowScene 0))
+    × ((without (flowScene 0) 0 .pictures ≡ ink 255) × (without (flowScene 0) 0 .floats ≡ []))
+unfolding without pictureStart pictureLenAt pictureLen sumOf layerOf
+invisible-floats = (invisible (flowScene 0) 0 (omega arith) (ready-flow 0) no-flow .1, (refl, refl))
+
+-- opaque: it shows its floats, 0.5, 1 and 0, and not the bytes, which layer 1 shows from their first on
+pub flow-shown : (channelAt (flowScene 0x3f80_0000) 0 0 0 ∷ channelAt (flowScene 0x3f80_0000) 0 0 1
+    ∷ channelAt (flowScene 0x3f80_0000) 0 0 2 ∷ channelAt (flowScene 0x3f80_0000) 0 1 0 ∷ []) ≡ 128 ∷ 255 ∷ 0 ∷ 1 ∷ []
+unfolding frameOpen byteOf ofBits
+flow-shown = refl
 
 -- ---- between
 

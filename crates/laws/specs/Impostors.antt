@@ -89,7 +89,7 @@ framedBy rule s = paintedBy rule s 0 8 (fillOf (s .words))
 abbrev pub repliedBy : Rule → Midway → List ℕ → List ℕ
 repliedBy rule m pictures =
     replyOf (framedOf (startedOf (m .told)) (m .tables) pictures)
-    (framedBy rule (sceneWith (startedOf (m .told) .state) (m .tables) pictures))
+    (framedBy rule (sceneWith (startedOf (m .told) .state) (m .tables) pictures []))
 
 -- the text that a well formed line prints
 abbrev pub printedBy : Rule → Display → List ℕ → List ℕ → List ℕ

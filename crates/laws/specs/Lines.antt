@@ -3,6 +3,7 @@
 use Prim.Native.Nat.{ℕ, _*_, _<_}
 use mathlib.Core.Path.{_≡_}
 use mathlib.Core.List.{List, [], _∷_, _++_}
+use lib.Ieee.{Float}
 use lib.ListN.{length, getD, take, drop}
 use Rattle.words.specs.Fields.{heightOf}
 use Rattle.frames.specs.Line.{lineLen}
@@ -29,15 +30,15 @@ abbrev pub withRow : List ℕ → ℕ → List ℕ → List ℕ → List ℕ
 withRow w y line out = take (y * lineLen w) out ++ (line ++ drop (lineLen w) (drop (y * lineLen w) out))
 
 -- line y painted in its place: that line alone is lent
-abbrev pub lineStep : List ℕ → List ℕ → ℕ → Panel → Panel
-lineStep tables pictures y p =
-    panel (lineTold (p .state) y tables pictures (rowIn (p .state .active) y (p .out)) .state)
-    (withRow (p .state .active) y (lineBytes (p .state) y tables pictures (rowIn (p .state .active) y (p .out))) (p .out))
+abbrev pub lineStep : List ℕ → List ℕ → List Float → ℕ → Panel → Panel
+lineStep tables pictures floats y p =
+    panel (lineTold (p .state) y tables pictures floats (rowIn (p .state .active) y (p .out)) .state)
+    (withRow (p .state .active) y (lineBytes (p .state) y tables pictures floats (rowIn (p .state .active) y (p .out))) (p .out))
 
 -- the lines of a list, one after the other
-unfoldable pub paintedLines : List ℕ → List ℕ → List ℕ → Panel → Panel
-paintedLines tables pictures [] p = p
-paintedLines tables pictures (y ∷ ys) p = paintedLines tables pictures ys (lineStep tables pictures y p)
+unfoldable pub paintedLines : List ℕ → List ℕ → List Float → List ℕ → Panel → Panel
+paintedLines tables pictures floats [] p = p
+paintedLines tables pictures floats (y ∷ ys) p = paintedLines tables pictures floats ys (lineStep tables pictures floats y p)
 
 -- ---- lists of line numbers
 

@@ -2,8 +2,9 @@
 -- enabled one". Assumes nothing.
 use Prim.Native.Nat.{ℕ, _+_, _*_, _≤_, _<_, min, max}
 use mathlib.Core.Path.{_≡_}
-use mathlib.Core.Bool.{Bool, true}
+use mathlib.Core.Bool.{Bool, true, false}
 use mathlib.Core.List.{List}
+use lib.Ieee.{Float}
 use lib.ListN.{getD, length}
 use Rattle.lists.specs.Choice.{pick, both}
 use Rattle.lists.specs.Runs.{run}
@@ -12,13 +13,13 @@ use Rattle.mix.specs.Pixel.{pixelLen, channels, opaque}
 use Rattle.profiles.specs.Profile.{bitsOf}
 use Rattle.words.specs.declared.fields.Layer.{Layer}
 use Rattle.words.specs.Fields.{shownOf, widthOf, heightOf, groundOf, layerOf}
-use Rattle.words.specs.Check.{Accepted}
+use Rattle.words.specs.Check.{Accepted, LetIn}
 use Rattle.words.specs.Image.{wordsOf}
 use Rattle.words.specs.Change.{withOff, withDepth}
-use Rattle.words.specs.Pictures.{pictureLenAt, pictureStart, picturesLen}
+use Rattle.words.specs.Pictures.{pictureLenAt, pictureStart, picturesLen, startAt}
 use Rattle.tables.specs.Geometry.{tablesLen}
 use Rattle.frames.specs.Scene.{Scene, sceneOf}
-use Rattle.frames.specs.Pixel.{bankBytes, ownAt, alphaAt, covers, acrossOf, downOf}
+use Rattle.frames.specs.Pixel.{bankBytes, bufferOf, ownAt, alphaAt, covers, acrossOf, downOf}
 use Rattle.frames.specs.Frame.{frameLen, frameOf}
 use Rattle.display.specs.declared.Display.{Display}
 use Rattle.display.specs.Paint.{sceneWith}
@@ -26,22 +27,24 @@ use Rattle.host.specs.Host.{sceneIn}
 
 -- ---- what every law asks and speaks of
 
--- accepted settings, the display on, tables and pictures of the right lengths
+-- accepted settings, the display on, tables, pictures and floats of the right lengths
 pub record Ready (s : Scene) : Type 0 where
   pub long : length (s .words) ≡ 52
   pub accepted : Accepted (s .words)
+  pub letIn : LetIn (s .profile .floats) (s .words)
   pub shown : shownOf (s .words) ≡ true
   pub tables : length (s .tables) ≡ tablesLen (bitsOf (s .profile))
-  pub pictures : length (s .pictures) ≡ picturesLen (s .words)
+  pub pictures : length (s .pictures) ≡ picturesLen false (s .words)
+  pub floats : length (s .floats) ≡ picturesLen true (s .words)
 
 -- an enabled layer
 pub record IsLayer (w : List ℕ) (n : ℕ) : Type 0 where
   pub number : n < 8
   pub on : layerOf w n .on ≡ true
 
--- a whole frame of the display d with the tables t, the pictures p and the output o that is painted
-pub record Framing (d : Display) (t p o : List ℕ) : Type 0 where
-  pub ready : Ready (sceneWith d t p)
+-- a whole frame of the display d with the tables t, the pictures p, the floats f and the output o that is painted
+pub record Framing (d : Display) (t p : List ℕ) (f : List Float) (o : List ℕ) : Type 0 where
+  pub ready : Ready (sceneWith d t p f)
   pub output : length o ≡ frameLen (d .active)
 
 -- the same of the host entry, with a register image and a frame number
@@ -74,7 +77,7 @@ ownOver s n y x c = ownAt s n (downOf (layerOf (s .words) n) y) (acrossOf (layer
 
 -- the same scene with other words
 abbrev pub withWords : Scene → List ℕ → Scene
-withWords s w = sceneOf (s .profile) w (s .frame) (s .tables) (s .pictures)
+withWords s w = sceneOf (s .profile) w (s .frame) (s .tables) (s .pictures) (s .floats)
 
 -- ---- "two layers next to each other in depth that share no pixel may exchange depths"
 
@@ -106,6 +109,7 @@ layerWith on depth l k =
     record {
       on = on;
       graphics = l .graphics;
+      floats = l .floats;
       depth = depth;
       global = k .global;
       value = k .value;
@@ -134,8 +138,9 @@ pub record OtherUnder (s t : Scene) (d : ℕ) : Type 0 where
   pub tables : (m kind : ℕ) → m < 8 → d ≤ layerOf (s .words) m .depth
       → bankBytes (bitsOf (s .profile)) (s .words) (t .tables) m kind
       ≡ bankBytes (bitsOf (s .profile)) (s .words) (s .tables) m kind
-  pub pictures : (m k : ℕ) → m < 8 → d ≤ layerOf (s .words) m .depth → k < pictureLenAt (s .words) m
-      → getD (t .pictures) (pictureStart (s .words) m + k) 0 ≡ getD (s .pictures) (pictureStart (s .words) m + k) 0
+  pub pictures : (m k : ℕ) → m < 8 → d ≤ layerOf (s .words) m .depth
+      → k < pictureLenAt (layerOf (s .words) m .floats) (s .words) m
+      → getD (bufferOf t m) (startAt (s .words) m + k) 0 ≡ getD (bufferOf s m) (startAt (s .words) m + k) 0
 
 -- ---- "a layer whose alpha is 0 all over may be switched off, its picture withdrawn with it"
 
@@ -143,14 +148,15 @@ pub record OtherUnder (s t : Scene) (d : ℕ) : Type 0 where
 abbrev pub Clear : Scene → ℕ → Type 0
 Clear s n = (v u : ℕ) → v < layerOf (s .words) n .height → u < layerOf (s .words) n .width → alphaAt s n v u ≡ 0
 
--- the pictures without those bytes of them that are layer n's (a graphics layer has none)
-abbrev pub withoutPicture : List ℕ → ℕ → List ℕ → List ℕ
-withoutPicture w n pictures = cut (pictureStart w n) (pictureLenAt w n) pictures
+-- the buffer of floats, where `floats`, or that of bytes, without those of it that are layer n's (a graphics layer has none)
+abbrev pub withoutPicture : {A : Type 0} → Bool → List ℕ → ℕ → List A → List A
+withoutPicture floats w n buffer = cut (pictureStart floats w n) (pictureLenAt floats w n) buffer
 
 -- layer n switched off, and its picture taken out
 unfoldable pub without : Scene → ℕ → Scene
 without s n =
-    sceneOf (s .profile) (withOff (s .words) n) (s .frame) (s .tables) (withoutPicture (s .words) n (s .pictures))
+    sceneOf (s .profile) (withOff (s .words) n) (s .frame) (s .tables) (withoutPicture false (s .words) n (s .pictures))
+    (withoutPicture true (s .words) n (s .floats))
 
 -- ---- "each channel lies between the least and greatest of the background's and the covering layers' there"
 

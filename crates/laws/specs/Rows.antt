@@ -2,15 +2,16 @@
 -- shows a row of each call. Assumes nothing.
 use Prim.Native.Nat.{ℕ, _+_, _*_, _≤_, _<_}
 use mathlib.Core.Path.{_≡_}
-use mathlib.Core.Bool.{true, false}
+use mathlib.Core.Bool.{Bool, true, false}
 use mathlib.Core.Logic.{_⊎_}
 use mathlib.Core.List.{List}
 use lib.Bits.{bitAnd}
+use lib.Ieee.{Float}
 use lib.ListN.{getD, length}
 use Rattle.lists.specs.Over.{over}
 use Rattle.mix.specs.Pixel.{pixelLen}
 use Rattle.words.specs.Fields.{updateOf, widthOf, heightOf, layerOf}
-use Rattle.words.specs.Check.{reservedBits}
+use Rattle.words.specs.Check.{reservedBits, Accepted, LetIn}
 use Rattle.words.specs.Pictures.{picturesLen}
 use Rattle.tables.specs.Geometry.{tablesLen}
 use Rattle.tables.specs.Selection.{endOf, namedBy}
@@ -32,6 +33,15 @@ pub record Row (answer number : ℕ) (Case Left : Type 0) : Type 0 where
 -- 7: "a reserved bit is set in any pending word"
 abbrev pub ReservedBit : List ℕ → Type 0
 ReservedBit w = (i : ℕ) × (i < 52) × ¬ (bitAnd (getD w i 0) (getD reservedBits i 0) ≡ 0)
+
+-- 02 K7, 7: "for bits 1 and 2 together", and for bit 2 alone where there is "no such buffer"
+abbrev pub BadKind : Bool → List ℕ → Type 0
+BadKind floats w =
+    (n : ℕ) × (n < 8) × (layerOf w n .floats ≡ true) × ¬ ((floats ≡ true) × (layerOf w n .graphics ≡ false))
+
+-- either, where `floats` says that there is one
+abbrev pub Case7 : Bool → List ℕ → Type 0
+Case7 floats w = ReservedBit w ⊎ BadKind floats w
 
 -- 8: "output width or height 0"
 abbrev pub EmptyScreen : List ℕ → Type 0
@@ -71,20 +81,24 @@ SameDepth w =
 -- ---- the cases in order: "Start 7, 8, then layers 0 to 7 each 9 then 10, then 11."
 
 -- 8
-abbrev pub Case8 : List ℕ → Type 0
-Case8 w = (¬ ReservedBit w) × EmptyScreen w
+abbrev pub Case8 : Bool → List ℕ → Type 0
+Case8 floats w = (¬ Case7 floats w) × EmptyScreen w
 
 -- 9
-abbrev pub Case9 : List ℕ → Type 0
-Case9 w = (¬ ReservedBit w) × ((¬ EmptyScreen w) × FirstLayer w (EmptyLayer w))
+abbrev pub Case9 : Bool → List ℕ → Type 0
+Case9 floats w = (¬ Case7 floats w) × ((¬ EmptyScreen w) × FirstLayer w (EmptyLayer w))
 
 -- 10
-abbrev pub Case10 : List ℕ → Type 0
-Case10 w = (¬ ReservedBit w) × ((¬ EmptyScreen w) × FirstLayer w (λ n. (¬ EmptyLayer w n) × OffScreen w n))
+abbrev pub Case10 : Bool → List ℕ → Type 0
+Case10 floats w = (¬ Case7 floats w) × ((¬ EmptyScreen w) × FirstLayer w (λ n. (¬ EmptyLayer w n) × OffScreen w n))
 
 -- 11
-abbrev pub Case11 : List ℕ → Type 0
-Case11 w = (¬ ReservedBit w) × ((¬ EmptyScreen w) × (AllPass w × SameDepth w))
+abbrev pub Case11 : Bool → List ℕ → Type 0
+Case11 floats w = (¬ Case7 floats w) × ((¬ EmptyScreen w) × (AllPass w × SameDepth w))
+
+-- none of them: the words are accepted, and have no float layer but where those are let in
+abbrev pub Passing : Bool → List ℕ → Type 0
+Passing floats w = Accepted w × LetIn floats w
 
 -- ---- the cases beside the check's, of the active words or the host's w, and of what is lent
 
@@ -122,7 +136,11 @@ WrongBoth tables = ¬ ((length tables ≡ tablesLen 1) ⊎ (length tables ≡ ta
 
 -- 14: "pictures of the wrong total length"
 abbrev pub WrongPictures : List ℕ → List ℕ → Type 0
-WrongPictures w pictures = ¬ (length pictures ≡ picturesLen w)
+WrongPictures w pictures = ¬ (length pictures ≡ picturesLen false w)
+
+-- 02 K7, 18: "for a float buffer of the wrong total length"
+abbrev pub WrongFloats : List ℕ → List Float → Type 0
+WrongFloats w floats = ¬ (length floats ≡ picturesLen true w)
 
 -- "13, 6, 14", where the tables are wrong in the case `Wrong`: 6 with 13 not given
 abbrev pub Case6 : List ℕ → List ℕ → Type 0 → Type 0
@@ -132,9 +150,19 @@ Case6 w out Wrong = (¬ WrongOutput w out) × Wrong
 abbrev pub Case14 : List ℕ → List ℕ → Type 0 → List ℕ → Type 0
 Case14 w out Wrong pictures = (¬ WrongOutput w out) × ((¬ Wrong) × WrongPictures w pictures)
 
--- none of the three
-abbrev pub BuffersFit : List ℕ → List ℕ → Type 0 → List ℕ → Type 0
-BuffersFit w out Wrong pictures = (¬ WrongOutput w out) × ((¬ Wrong) × (¬ WrongPictures w pictures))
+-- 18 "after 14"
+abbrev pub Case18 : List ℕ → List ℕ → Type 0 → List ℕ → List Float → Type 0
+Case18 w out Wrong pictures floats =
+    (¬ WrongOutput w out) × ((¬ Wrong) × ((¬ WrongPictures w pictures) × WrongFloats w floats))
+
+-- none of the four
+abbrev pub BuffersFit : List ℕ → List ℕ → Type 0 → List ℕ → List Float → Type 0
+BuffersFit w out Wrong pictures floats =
+    (¬ WrongOutput w out) × ((¬ Wrong) × ((¬ WrongPictures w pictures) × (¬ WrongFloats w floats)))
+
+-- of the first three, where no floats are lent
+abbrev pub BytesFit : List ℕ → List ℕ → Type 0 → List ℕ → Type 0
+BytesFit w out Wrong pictures = (¬ WrongOutput w out) × ((¬ Wrong) × (¬ WrongPictures w pictures))
 
 -- 3: "nothing selected"
 abbrev pub NotSelected : Display → Type 0
@@ -172,23 +200,23 @@ abbrev pub FillRow : Display → List ℕ → ℕ → Type 0 → Type 0
 FillRow d out number Case =
     Row (fillTold d out .answer) number Case ((fillTold d out .state ≡ d) × (fillBytes d out ≡ out))
 
--- paint, of the band's ends, tables, pictures and output: "all unchanged"
-abbrev pub PaintRow : Display → ℕ → ℕ → List ℕ → List ℕ → List ℕ → ℕ → Type 0 → Type 0
-PaintRow d a b tables pictures out number Case =
-    Row (paintTold d a b tables pictures out .answer) number Case
-    ((paintTold d a b tables pictures out .state ≡ d) × (paintBytes d a b tables pictures out ≡ out))
+-- paint, of the band's ends, tables, pictures, floats and output: "all unchanged"
+abbrev pub PaintRow : Display → ℕ → ℕ → List ℕ → List ℕ → List Float → List ℕ → ℕ → Type 0 → Type 0
+PaintRow d a b tables pictures floats out number Case =
+    Row (paintTold d a b tables pictures floats out .answer) number Case
+    ((paintTold d a b tables pictures floats out .state ≡ d) × (paintBytes d a b tables pictures floats out ≡ out))
 
--- frame, of tables, pictures and output: "all unchanged"
-abbrev pub FrameRow : Display → List ℕ → List ℕ → List ℕ → ℕ → Type 0 → Type 0
-FrameRow d tables pictures out number Case =
-    Row (frameTold d tables pictures out .answer) number Case
-    ((frameTold d tables pictures out .state ≡ d) × (frameBytes d tables pictures out ≡ out))
+-- frame, of tables, pictures, floats and output: "all unchanged"
+abbrev pub FrameRow : Display → List ℕ → List ℕ → List Float → List ℕ → ℕ → Type 0 → Type 0
+FrameRow d tables pictures floats out number Case =
+    Row (frameTold d tables pictures floats out .answer) number Case
+    ((frameTold d tables pictures floats out .state ≡ d) × (frameBytes d tables pictures floats out ≡ out))
 
--- line, of its number, tables, pictures and output: "all unchanged"
-abbrev pub LineRow : Display → ℕ → List ℕ → List ℕ → List ℕ → ℕ → Type 0 → Type 0
-LineRow d y tables pictures out number Case =
-    Row (lineTold d y tables pictures out .answer) number Case
-    ((lineTold d y tables pictures out .state ≡ d) × (lineBytes d y tables pictures out ≡ out))
+-- line, of its number, tables, pictures, floats and output: "all unchanged"
+abbrev pub LineRow : Display → ℕ → List ℕ → List ℕ → List Float → List ℕ → ℕ → Type 0 → Type 0
+LineRow d y tables pictures floats out number Case =
+    Row (lineTold d y tables pictures floats out .answer) number Case
+    ((lineTold d y tables pictures floats out .state ≡ d) × (lineBytes d y tables pictures floats out ≡ out))
 
 -- the host entry, of image, frame number, tables, pictures and output: "every refusal leaves the output
 -- unchanged"

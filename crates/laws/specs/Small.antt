@@ -2,6 +2,7 @@
 -- one. Assumes nothing.
 use Prim.Native.Nat.{ℕ}
 use mathlib.Core.Path.{_≡_}
+use mathlib.Core.Bool.{false}
 use mathlib.Core.List.{List, [], _∷_, _++_}
 use lib.ListN.{length}
 use Rattle.lists.specs.Call.{Meets}
@@ -66,7 +67,7 @@ night = 0
 
 -- a display of one bit a glyph pixel, as a sheet begins with it
 abbrev pub first : Display
-first = fresh oneBit
+first = fresh (oneBit false)
 
 -- a state with words written
 abbrev pub writtenTo : Display → List Write → Display
@@ -164,19 +165,19 @@ page n = zeros n
 
 -- what paint and frame paint from
 abbrev pub scene : List ℕ → Scene
-scene pictures = sceneWith (started grey) blank pictures
+scene pictures = sceneWith (started grey) blank pictures []
 
 -- the output of paint
 abbrev pub painted : List ℕ → List ℕ
-painted pictures = paintBytes (started grey) 0 8 blank pictures filled
+painted pictures = paintBytes (started grey) 0 8 blank pictures [] filled
 
 -- of frame
 abbrev pub framed : List ℕ → List ℕ
-framed pictures = frameBytes (started grey) blank pictures filled
+framed pictures = frameBytes (started grey) blank pictures [] filled
 
 -- of its one line
 abbrev pub lined : List ℕ → List ℕ
-lined pictures = lineBytes (started grey) 0 blank pictures filled
+lined pictures = lineBytes (started grey) 0 blank pictures [] filled
 
 -- what the host entry paints from
 abbrev pub hostScene : List ℕ → Scene
@@ -205,15 +206,15 @@ replyWith frame = replyText (done ∷ headOf (started grey) ++ frame)
 
 -- of paint
 abbrev pub Paints : List ℕ → List ℕ → Type 0
-Paints pictures out = (t : Told) × Meets paintCall (started grey, 0, 8, blank, pictures, filled) (t, out)
+Paints pictures out = (t : Told) × Meets paintCall (started grey, 0, 8, blank, pictures, [], filled) (t, out)
 
 -- of frame
 abbrev pub Frames : List ℕ → List ℕ → Type 0
-Frames pictures out = (t : Told) × Meets frameCall (started grey, blank, pictures, filled) (t, out)
+Frames pictures out = (t : Told) × Meets frameCall (started grey, blank, pictures, [], filled) (t, out)
 
 -- of its one line
 abbrev pub Scans : List ℕ → List ℕ → Type 0
-Scans pictures out = (t : Told) × Meets lineCall (started grey, 0, blank, pictures, filled) (t, out)
+Scans pictures out = (t : Told) × Meets lineCall (started grey, 0, blank, pictures, [], filled) (t, out)
 
 -- of the host entry
 abbrev pub Hosts : List ℕ → List ℕ → Type 0

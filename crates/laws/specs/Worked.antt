@@ -1,6 +1,8 @@
 -- Screens of 2 by 1 pixels on which the laws of painting are worked. Assumes nothing.
 use Prim.Native.Nat.{ℕ, _+_, _-_, _*_, _^_}
+use mathlib.Core.Bool.{true}
 use mathlib.Core.List.{List, [], _∷_, _++_}
+use lib.Ieee.{Float, binary32, ofBits}
 use lib.ListN.{length, replicate}
 use Rattle.profiles.specs.Profile.{oneBit}
 use Rattle.tables.specs.Geometry.{tablesLen}
@@ -20,6 +22,10 @@ fading depth x = (1 + 256 * depth) ∷ (2 ^ 31 + 7) ∷ x ∷ (1 + 65536) ∷ 0 
 -- a graphics layer of one pixel
 abbrev pub figure : ℕ → ℕ → List ℕ
 figure depth x = (3 + 256 * depth) ∷ 0 ∷ x ∷ (1 + 65536) ∷ 0 ∷ 0 ∷ []
+
+-- a float layer of one pixel
+abbrev pub flow : ℕ → ℕ → List ℕ
+flow depth x = (5 + 256 * depth) ∷ 0 ∷ x ∷ (1 + 65536) ∷ 0 ∷ 0 ∷ []
 
 -- 2 by 1 pixels, with a background and two layers
 abbrev pub words : ℕ → List ℕ → List ℕ → List ℕ
@@ -57,6 +63,10 @@ faded ground = words ground (dot 0 0) (fading 1 0)
 abbrev pub drawing : List ℕ
 drawing = words brown (figure 0 0) (dot 1 1)
 
+-- a float layer under a frame layer, beside it
+abbrev pub flowing : List ℕ
+flowing = words brown (flow 0 0) (dot 1 1)
+
 -- ---- pixels
 
 -- of two colours
@@ -66,6 +76,10 @@ sand alpha = 200 ∷ 100 ∷ 50 ∷ alpha ∷ []
 -- nearly black
 abbrev pub ink : ℕ → List ℕ
 ink alpha = 1 ∷ 2 ∷ 3 ∷ alpha ∷ []
+
+-- 0.5, 1 and 0, and an alpha by its bits
+abbrev pub water : ℕ → List Float
+water alpha = ofBits binary32 0x3f00_0000 ∷ ofBits binary32 0x3f80_0000 ∷ ofBits binary32 0 ∷ ofBits binary32 alpha ∷ []
 
 -- ---- tables
 
@@ -83,7 +97,7 @@ boxIn colour =
 
 -- at a frame number, with two pictures
 abbrev pub sceneAt : ℕ → List ℕ → List ℕ → List ℕ → Scene
-sceneAt frame w p₀ p₁ = sceneOf oneBit w frame none (p₀ ++ p₁)
+sceneAt frame w p₀ p₁ = sceneOf (oneBit true) w frame none (p₀ ++ p₁) []
 
 -- at frame 0
 abbrev pub sceneOn : List ℕ → List ℕ → List ℕ → Scene
@@ -123,4 +137,8 @@ veiled alpha = sceneOn apart (sand alpha) (ink 255)
 
 -- a graphics layer that draws in a colour of an alpha, beside an opaque frame layer
 abbrev pub drawnScene : ℕ → Scene
-drawnScene alpha = sceneOf oneBit drawing 0 (boxIn (sand alpha)) (ink 255)
+drawnScene alpha = sceneOf (oneBit true) drawing 0 (boxIn (sand alpha)) (ink 255) []
+
+-- a float layer of an alpha, by its bits, beside an opaque frame layer
+abbrev pub flowScene : ℕ → Scene
+flowScene alpha = sceneOf (oneBit true) flowing 0 none (ink 255) (water alpha)

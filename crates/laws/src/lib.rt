@@ -12,12 +12,18 @@ use host::spoonwing_frame;
 
 // Whoever makes the display's call has its law of between, and no more to show than that the frame is
 // painted. It asks what painting asks.
-fn between_frame(state: Display, tables: &[u8], pictures: &[u8], out: &mut [u8]) -> Told
+fn between_frame(
+    state: Display,
+    tables: &[u8],
+    pictures: &[u8],
+    floats: &[f32],
+    out: &mut [u8],
+) -> Told
     requires { ⌜ Arranged state ⌝ }
-    ensures { λ _. ⌜ (Framing state (now (tables .entry)) (now (pictures .entry)) (now (out .entry))
-        → Between (sceneWith state (now (tables .entry)) (now (pictures .entry))) (now (out .exit))) ⌝ }
+    ensures { λ _. ⌜ (Framing state (now (tables .entry)) (now (pictures .entry)) (now (floats .entry)) (now (out .entry))
+        → Between (sceneWith state (now (tables .entry)) (now (pictures .entry)) (now (floats .entry))) (now (out .exit))) ⌝ }
 {
-    state.frame(tables, pictures, out)
+    state.frame(tables, pictures, floats, out)
 }
 
 // The same of the host entry.

@@ -1,6 +1,6 @@
 -- A line keeps what the state holds for painting, whatever is refused on it. Assumes nothing.
 use mathlib.Core.Path.{_≡_, ap}
-use mathlib.Core.List.{List}
+use mathlib.Core.List.{List, []}
 use Prim.Native.Nat.{ℕ}
 use lib.Dec.{eqb, leb}
 use lib.ListN.{length}
@@ -32,7 +32,7 @@ started-arranged t a = start-arranged (t .state) a
 framed-arranged : (r : Told) (t p : List ℕ) → Arranged (r .state) → Arranged (framedOf r t p .state)
 unfolding framedOf
 framed-arranged r t p a =
-    choose-keeps ArrangedTold (eqb (r .answer) done) _ _ (λ _. frame-arranged (r .state) a t p (lentOf (r .state))) (λ _. a)
+    choose-keeps ArrangedTold (eqb (r .answer) done) _ _ (λ _. frame-arranged (r .state) a t p [] (lentOf (r .state))) (λ _. a)
 
 -- as the code has the steps
 pub steps-arranged : (d : Display) (t v b : List ℕ) (r : Told)

@@ -1,7 +1,7 @@
 -- What a line prints has room: 8,211 bytes. Assumes nothing.
 use Prim.Native.Nat.{ℕ, _*_, _≤_}
 use mathlib.Core.Path.{_≡_, _∙_}
-use mathlib.Core.List.{List, _∷_}
+use mathlib.Core.List.{List, [], _∷_}
 use native.Mathlib.Omega.{arith}
 use borrow.Author.Tests.{leb-true}
 use lib.Dec.{eqb, leb}
@@ -32,7 +32,7 @@ painted-le : (r : Told) (t p : List ℕ) → length (paintedOf r t p) ≤ mostLe
 unfolding paintedOf lentOf zeros
 painted-le r t p =
     let n : ℕ = lentFor (widthOf (r .state .active)) (heightOf (r .state .active)) in
-    let e : length (paintedOf r t p) ≡ n = length-frameBytes (r .state) t p _ ∙ length-replicate {A = ℕ} n 0 in
+    let e : length (paintedOf r t p) ≡ n = length-frameBytes (r .state) t p [] _ ∙ length-replicate {A = ℕ} n 0 in
     omega (arith, lentFor-le (widthOf (r .state .active)) (heightOf (r .state .active)))
 
 replyOf-le : (r : Told) (bytes : List ℕ) → length bytes ≤ mostLent → length (replyOf r bytes) ≤ mostReply

@@ -129,7 +129,7 @@ module _ (t : Told) (ta pi : List ℕ) where
   module _ (n : ℕ) (o : List ℕ) (f : Told) (z : t .answer ≡ done)
       (en : n ≡ lentFor (widthOf (t .state .active)) (heightOf (t .state .active)))
       (small : n ≤ mostLent) (ez : o ≡ zeros mostReply)
-      (ef : f ≡ frameTold (t .state) ta pi (take (headLen + n - headLen) (drop headLen o))) where
+      (ef : f ≡ frameTold (t .state) ta pi [] (take (headLen + n - headLen) (drop headLen o))) where
     span : headLen + n - headLen ≡ n
     span = omega arith
 
@@ -144,17 +144,17 @@ module _ (t : Told) (ta pi : List ℕ) where
 
     framed-is : f ≡ framedOf t ta pi
     unfolding framedOf
-    framed-is = simp (eq-eqb (t .answer) done z) (ef ∙ ap (λ (l : List ℕ). frameTold (t .state) ta pi l) lent-is)
+    framed-is = simp (eq-eqb (t .answer) done z) (ef ∙ ap (λ (l : List ℕ). frameTold (t .state) ta pi [] l) lent-is)
 
     pub frame-stopped : (r : Replied) (u : List ℕ) → (f .answer ≡ done → ⊥) → Refused (f .state) (f .answer) r u
         → Framed t ta pi r u
     frame-stopped r u h q = refused-is f r u framed-is h q
 
-    module _ (part : List ℕ) (ep : part ≡ frameBytes (t .state) ta pi (take (headLen + n - headLen) (drop headLen o)))
+    module _ (part : List ℕ) (ep : part ≡ frameBytes (t .state) ta pi [] (take (headLen + n - headLen) (drop headLen o)))
         (kept : length part ≡ length (take (headLen + n - headLen) (drop headLen o))) where
       part-is : part ≡ paintedOf t ta pi
       unfolding paintedOf
-      part-is = ep ∙ ap (λ (l : List ℕ). frameBytes (t .state) ta pi l) lent-is
+      part-is = ep ∙ ap (λ (l : List ℕ). frameBytes (t .state) ta pi [] l) lent-is
 
       part-long : length part ≡ n
       part-long =

@@ -36,13 +36,14 @@ lentFor w h = pick (leb (pixelLen * (w * h)) mostLent) (pixelLen * (w * h)) most
 unfoldable pub lentOf : Display → List ℕ
 lentOf d = zeros (lentFor (widthOf (d .active)) (heightOf (d .active)))
 
--- ".. whole frame, in that order": left out after a refusal, of the start too
+-- ".. whole frame, in that order": left out after a refusal, of the start too; 02 K7: it has "no such buffer" as float layers
+-- ask
 unfoldable pub framedOf : Told → List ℕ → List ℕ → Told
-framedOf r t p = choose (eqb (r .answer) done) (frameTold (r .state) t p (lentOf (r .state))) r
+framedOf r t p = choose (eqb (r .answer) done) (frameTold (r .state) t p [] (lentOf (r .state))) r
 
 -- the frame's bytes
 unfoldable pub paintedOf : Told → List ℕ → List ℕ → List ℕ
-paintedOf r t p = frameBytes (r .state) t p (lentOf (r .state))
+paintedOf r t p = frameBytes (r .state) t p [] (lentOf (r .state))
 
 -- "after 00 also error word (8), width (4), height (4), bytes": of the state that the frame leaves
 abbrev pub headOf : Display → List ℕ

@@ -130,7 +130,8 @@ fn frame(t: Told, tables: &[u8], pictures: &[u8], reply: &mut [u8]) -> Replied
         return refuse(state, refused, reply);
     }
     let n = lent_len(state);
-    let f = state.frame(tables, pictures, &mut reply[HEAD_LEN..HEAD_LEN + n]);
+    let none: [f32; 0] = [];
+    let f = state.frame(tables, pictures, &none, &mut reply[HEAD_LEN..HEAD_LEN + n]);
     let answer = f.answer;
     let after = f.state;
     if answer != DONE {

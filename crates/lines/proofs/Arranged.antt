@@ -1,6 +1,7 @@
 -- A sheet keeps what its state holds for painting: where it begins, after each call of `feed` and `finish`, and after a
 -- block in as many calls as it takes. Assumes nothing.
 use Prim.Native.Nat.{ℕ, zero, suc}
+use mathlib.Core.Bool.{false}
 use mathlib.Core.List.{List}
 use lib.Dec.{ltb, eqb}
 use lib.ListN.{length}
@@ -24,7 +25,7 @@ abbrev ArrangedBatch : Batch → Type 0
 ArrangedBatch b = Arranged (b .going .state)
 
 pub begun-arranged : Arranged (begun .state)
-begun-arranged = fresh-arranged oneBit
+begun-arranged = fresh-arranged (oneBit false)
 
 -- ---- the lines of one call
 

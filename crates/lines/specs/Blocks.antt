@@ -1,7 +1,7 @@
 -- A sheet that comes in blocks of bytes: what one call makes of the bytes that are left of a block.
 -- The laws that tie it to `Sheet` are proved in `proofs/`. Assumes nothing.
 use Prim.Native.Nat.{ℕ, zero, suc, _+_}
-use mathlib.Core.Bool.{Bool}
+use mathlib.Core.Bool.{Bool, false}
 use mathlib.Core.List.{List, [], _++_}
 use lib.ListN.{length, take, drop}
 use lib.Dec.{ltb, leb, eqb}
@@ -30,10 +30,10 @@ lastRun d t x = choose (eqb (length x) 0) (idle d t) (lineOf d t x)
 
 -- ---- a batch of lines
 
--- "State and tables, all zero at first"; 02 K2: "the sheet program has one" bit a glyph pixel: where a sheet begins, nothing
--- has come of a line
+-- "State and tables, all zero at first"; 02 K2: "the sheet program has one" bit a glyph pixel; K7: it has "no such buffer" as
+-- float layers ask: where a sheet begins, nothing has come of a line
 abbrev pub begun : Going
-begun = record { state = fresh oneBit; held = 0 }
+begun = record { state = fresh (oneBit false); held = 0 }
 
 -- what has come of the next line, in the buffer u
 abbrev pub lineBegun : Going → List ℕ → List ℕ

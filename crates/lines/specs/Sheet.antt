@@ -1,6 +1,7 @@
 -- A sheet cut into lines, and what they print: 01 "Sheet program and host entry", "reads lines of
 -- hexadecimal, one frame a line". Assumes nothing.
 use Prim.Native.Nat.{ℕ}
+use mathlib.Core.Bool.{false}
 use mathlib.Core.List.{List, [], _∷_, _++_}
 use Rattle.profiles.specs.Profile.{oneBit}
 use Rattle.tables.specs.Geometry.{tablesLen}
@@ -26,6 +27,6 @@ sheetOf d t bytes = linesOf d t (linesFrom [] bytes)
 abbrev pub firstTables : List ℕ
 firstTables = zeros (tablesLen 1)
 
--- what the program prints
+-- what the program prints; 02 K7: it has "no such buffer" as float layers ask
 unfoldable pub programOf : List ℕ → List ℕ
-programOf bytes = sheetOf (fresh oneBit) firstTables bytes .printed
+programOf bytes = sheetOf (fresh (oneBit false)) firstTables bytes .printed

@@ -40,7 +40,7 @@ pub struct Fed {
 pub fn first() -> Going
     ensures { λ r. ⌜ r ≡ begun ⌝ }
 {
-    let told = Display::new(1);
+    let told = Display::new(1, false);
     let state = told.state;
     Going { state, held: 0 }
 }

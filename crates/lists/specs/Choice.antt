@@ -1,7 +1,7 @@
 -- Choices by a test. Numbers have one of their own, since a numeral takes its type from where it
 -- stands. Assumes nothing.
 use Prim.Native.Nat.{ℕ}
-use mathlib.Core.Bool.{Bool, true, false}
+use mathlib.Core.Bool.{Bool, true, false, not}
 use lib.Dec.{eqb}
 
 -- a where the test holds, else b
@@ -23,6 +23,11 @@ both false b = false
 abbrev pub either : Bool → Bool → Bool
 either true b = true
 either false b = b
+
+-- a and b, or neither
+abbrev pub agree : Bool → Bool → Bool
+agree true b = b
+agree false b = not b
 
 -- the first that is not 0, of a and then b: of two refusals the earlier
 abbrev pub orElse : ℕ → ℕ → ℕ

@@ -4,5 +4,5 @@ use mathlib.Core.List.{List, _++_}
 use lib.ListN.{take, drop}
 
 -- the list without the n elements from o on
-abbrev pub cut : ℕ → ℕ → List ℕ → List ℕ
+abbrev pub cut : {A : Type 0} → ℕ → ℕ → List A → List A
 cut o n l = take o l ++ drop (o + n) l

@@ -17,4 +17,4 @@ layoutOf w = record { order = packed (orderOf w); pictures = picturesOf w }
 
 -- where no layer is enabled: all numbers 0
 abbrev pub noLayers : Layout
-noLayers = record { order = packed []; pictures = record { starts = replicate 8 0; total = 0 } }
+noLayers = record { order = packed []; pictures = record { starts = replicate 8 0; bytes = 0; floats = 0 } }

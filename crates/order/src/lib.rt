@@ -1,12 +1,12 @@
 // The enabled layers in the order of painting, rising depth and of one depth by their number; and where each
-// frame layer's picture begins among the pictures, and their total length. Functions of words alone, so that a state
+// frame layer's picture begins in its buffer, and how long both buffers are. Functions of words alone, so that a state
 // can hold what they answer.
 ghost use mathlib.Core.Path.{_≡_};
 ghost use Prim.Native.Nat.{_+_, _≤_, _<_};
 ghost use Rattle.words.specs.Order.{here, layersBelow, orderOf};
-ghost use Rattle.words.specs.Pictures.{pictureLen, pictureLenAt, picturesOf};
+ghost use Rattle.words.specs.Pictures.{pictureLen, picturesOf};
 ghost use Rattle.order.specs.Layout.{packed, layoutOf, noLayers};
-ghost use Rattle.order.specs.Engine.Found.{found};
+ghost use Rattle.order.specs.Engine.Found.{found, withPicture};
 use mix::PIXEL_LEN;
 use words::fields::Layer;
 use words::fields::layer_of;
@@ -76,9 +76,10 @@ pub fn order_of(w: &[u32; 52]) -> Order
     found
 }
 
-// The bytes of a layer's picture.
+// The numbers of a layer's picture, in whichever buffer it stands: at most 4 * 4095 * 4095 of a layer out of words, so that
+// eight of them stay far below 2 ^ 32.
 fn picture_len(l: Layer) -> usize
-    ensures { λ r. ⌜ r ≡ pictureLen l ⌝ }
+    ensures { λ r. ⌜ r ≡ pictureLen (l .floats) l ⌝ }
 {
     if !l.on {
         return 0;
@@ -89,30 +90,39 @@ fn picture_len(l: Layer) -> usize
     PIXEL_LEN * ((l.width as usize) * (l.height as usize))
 }
 
-// They are at most 4 * 4095 * 4095, so that eight of them stay far below 2 ^ 32.
-fn picture_len_at(w: &[u32; 52], n: usize) -> usize
-    requires { ⌜ n < 8 ⌝ }
-    ensures { λ r. ⌜ (r ≡ pictureLenAt (now (w .entry)) n) × (r ≤ 67076100) ⌝ }
+// Layer n's picture behind those of lower number.
+fn with_picture(mut pictures: Pictures, l: Layer, n: usize) -> Pictures
+    requires { ⌜ (n < 8) × (pictures .bytes + pictureLen (l .floats) l < 4294967296)
+        × (pictures .floats + pictureLen (l .floats) l < 4294967296) ⌝ }
+    ensures { λ r. ⌜ r ≡ withPicture pictures l n ⌝ }
 {
-    picture_len(layer_of(w, n))
+    let len = picture_len(l) as u32;
+    if l.floats {
+        let at = pictures.floats;
+        pictures.starts[n] = at;
+        pictures.floats = at + len;
+        return pictures;
+    }
+    let at = pictures.bytes;
+    pictures.starts[n] = at;
+    pictures.bytes = at + len;
+    pictures
 }
 
 pub fn pictures_of(w: &[u32; 52]) -> Pictures
     ensures { λ r. ⌜ r ≡ picturesOf (now (w .entry)) ⌝ }
 {
-    let mut starts: [u32; 8] = [0; 8];
-    let mut total: u32 = 0;
+    let mut pictures = Pictures {
+        starts: [0; 8],
+        bytes: 0,
+        floats: 0,
+    };
     let mut n: usize = 0;
     while n < 8 {
-        let len = picture_len_at(w, n) as u32;
-        starts[n] = total;
-        total += len;
+        pictures = with_picture(pictures, layer_of(w, n), n);
         n += 1;
     }
-    Pictures {
-        starts: starts,
-        total: total,
-    }
+    pictures
 }
 
 // Both, worked out afresh.
@@ -135,7 +145,8 @@ pub fn no_layers() -> Layout
         },
         pictures: Pictures {
             starts: [0; 8],
-            total: 0,
+            bytes: 0,
+            floats: 0,
         },
     }
 }

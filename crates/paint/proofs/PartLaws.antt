@@ -60,9 +60,9 @@ wholePart w a b = record { low = a; high = b; first = 0; count = heightOf w }
 module _ (s : Scene) (a b : ℕ) (fresh : Bool) (out : List ℕ) where
   whole-fits : refusalOf s a b out ≡ 0 → PartFits s (wholePart (s .words) a b) out
   whole-fits e =
-      let f = paint-fits _ _ _ _ _ _ _ e in
+      let f = paint-fits _ _ _ _ _ _ _ _ e in
       record {
-        lent = record { tables = f .lent; pictures = f .shown };
+        lent = record { tables = f .lent; pictures = f .shown; floats = f .flows };
         long = f .long ∙ sym (frame-lines (widthOf (s .words)) (heightOf (s .words)));
         wide = f .wide;
         low = f .low;
@@ -97,7 +97,7 @@ module _ (s : Scene) (a b : ℕ) (fresh : Bool) (out : List ℕ) where
     whole-output =
         rw e
         (choose-cong (eqb (refusalOf s a b out) 0)
-        (λ t. whole-bytes (paint-fits _ _ _ _ _ _ _ (eqb-true _ _ t) .long)) (λ t. refl))
+        (λ t. whole-bytes (paint-fits _ _ _ _ _ _ _ _ (eqb-true _ _ t) .long)) (λ t. refl))
 
 -- ---- a line
 
@@ -107,9 +107,9 @@ linePart y = record { low = 0; high = 8; first = y; count = 1 }
 module _ (s : Scene) (y : ℕ) (out : List ℕ) where
   line-asked-0 : lineRefusalOf s y out ≡ 0 → PartFits s (linePart y) out
   line-asked-0 e =
-      let f = line-fits _ _ _ _ _ _ e in
+      let f = line-fits _ _ _ _ _ _ _ e in
       record {
-        lent = record { tables = f .lent; pictures = f .shown };
+        lent = record { tables = f .lent; pictures = f .shown; floats = f .flows };
         long = f .long ∙ sym (one-mul (lineLen (s .words)));
         wide = f .wide;
         low = omega arith;
@@ -139,4 +139,4 @@ module _ (s : Scene) (y : ℕ) (out : List ℕ) where
     line-output =
         rw e
         (choose-cong (eqb (lineRefusalOf s y out) 0)
-        (λ t. let f = line-fits _ _ _ _ _ _ (eqb-true _ _ t) in line-bytes (f .number) (f .long)) (λ t. refl))
+        (λ t. let f = line-fits _ _ _ _ _ _ _ (eqb-true _ _ t) in line-bytes (f .number) (f .long)) (λ t. refl))

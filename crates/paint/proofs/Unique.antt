@@ -14,13 +14,13 @@ pub fill-unique : (κs i a b e f : _) → fill.Post κs i a e → fill.Post κs 
 fill-unique κs i a b e f p q = (meet (p .0) (q .0), meet (p .1) (q .1))
 
 pub band-unique : (κs i a b e f : _) → band.Post κs i a e → band.Post κs i b f
-    → (a ≡ b) × (now (e .1 .1 .1 .1 .1 .1 .1 .1 .1 .0) ≡ now (f .1 .1 .1 .1 .1 .1 .1 .1 .1 .0))
+    → (a ≡ b) × (now (e .1 .1 .1 .1 .1 .1 .1 .1 .1 .1 .0) ≡ now (f .1 .1 .1 .1 .1 .1 .1 .1 .1 .1 .0))
 band-unique κs i a b e f p q = (meet (p .0) (q .0), meet (p .1) (q .1))
 
 pub frame-unique : (κs i a b e f : _) → frame.Post κs i a e → frame.Post κs i b f
-    → (a ≡ b) × (now (e .1 .1 .1 .1 .1 .1 .1 .0) ≡ now (f .1 .1 .1 .1 .1 .1 .1 .0))
+    → (a ≡ b) × (now (e .1 .1 .1 .1 .1 .1 .1 .1 .0) ≡ now (f .1 .1 .1 .1 .1 .1 .1 .1 .0))
 frame-unique κs i a b e f p q = (meet (p .0) (q .0), meet (p .1) (q .1))
 
 pub line-unique : (κs i a b e f : _) → line.Post κs i a e → line.Post κs i b f
-    → (a ≡ b) × (now (e .1 .1 .1 .1 .1 .1 .1 .1 .0) ≡ now (f .1 .1 .1 .1 .1 .1 .1 .1 .0))
+    → (a ≡ b) × (now (e .1 .1 .1 .1 .1 .1 .1 .1 .1 .0) ≡ now (f .1 .1 .1 .1 .1 .1 .1 .1 .1 .0))
 line-unique κs i a b e f p q = (meet (p .0) (q .0), meet (p .1) (q .1))

@@ -18,6 +18,7 @@ use plan::plan_of;
 use profiles::Profile;
 use profiles::bits_of;
 use refusals::DEPTHS;
+use refusals::Lengths;
 use refusals::fill_refusal;
 use refusals::line_refusal;
 use refusals::paint_refusal;
@@ -61,15 +62,16 @@ fn paint_part(
     fresh: bool,
     tables: &[u8],
     pictures: &[u8],
+    floats: &[f32],
     out: &mut [u8],
 ) -> u32
     requires { ⌜ (layout ≡ layoutOf (now w))
-        × PartFits (sceneOf profile (now w) frame (now tables) (now pictures)) part (now out) ⌝ }
+        × PartFits (sceneOf profile (now w) frame (now tables) (now pictures) (now floats)) part (now out) ⌝ }
     ensures errors { λ r. ⌜ r ≡ errorsOf
-        (sceneOf profile (now (w .entry)) frame (now (tables .entry)) (now (pictures .entry)))
+        (sceneOf profile (now (w .entry)) frame (now (tables .entry)) (now (pictures .entry)) (now (floats .entry)))
         (part .low) (part .high) errors ⌝ }
     ensures output { λ _. ⌜ now (out .exit) ≡ each (partByte
-        (sceneOf profile (now (w .entry)) frame (now (tables .entry)) (now (pictures .entry))) part fresh)
+        (sceneOf profile (now (w .entry)) frame (now (tables .entry)) (now (pictures .entry)) (now (floats .entry))) part fresh)
         (now (out .entry)) ⌝ }
 {
     if !is_shown(w) {
@@ -77,7 +79,7 @@ fn paint_part(
         return errors;
     }
     let plan = plan_of(bits_of(profile), w, layout, frame, errors, tables, part);
-    paint_rows(out, w, tables, pictures, fresh, plan, part);
+    paint_rows(out, w, tables, pictures, floats, fresh, plan, part);
     plan.errors
 }
 
@@ -93,14 +95,15 @@ fn paint_unless(
     fresh: bool,
     tables: &[u8],
     pictures: &[u8],
+    floats: &[f32],
     out: &mut [u8],
 ) -> Painted
     requires { ⌜ (layout ≡ layoutOf (now w))
-        × (refusal ≡ 0 → PartFits (sceneOf profile (now w) frame (now tables) (now pictures)) part (now out)) ⌝ }
+        × (refusal ≡ 0 → PartFits (sceneOf profile (now w) frame (now tables) (now pictures) (now floats)) part (now out)) ⌝ }
     ensures told { λ r. ⌜ r ≡ partTold refusal
-        (sceneOf profile (now (w .entry)) frame (now (tables .entry)) (now (pictures .entry))) part errors ⌝ }
+        (sceneOf profile (now (w .entry)) frame (now (tables .entry)) (now (pictures .entry)) (now (floats .entry))) part errors ⌝ }
     ensures output { λ _. ⌜ now (out .exit) ≡ partOutput refusal
-        (sceneOf profile (now (w .entry)) frame (now (tables .entry)) (now (pictures .entry))) part fresh
+        (sceneOf profile (now (w .entry)) frame (now (tables .entry)) (now (pictures .entry)) (now (floats .entry))) part fresh
         (now (out .entry)) ⌝ }
 {
     if refusal != DONE {
@@ -119,6 +122,7 @@ fn paint_unless(
         fresh,
         tables,
         pictures,
+        floats,
         out,
     );
     Painted {
@@ -127,7 +131,7 @@ fn paint_unless(
     }
 }
 
-// The band's layers over the ground, where `fresh`, or over what `out` holds. Refused with 15, 12, 13, 6, 14 in
+// The band's layers over the ground, where `fresh`, or over what `out` holds. Refused with 15, 12, 13, 6, 14, 18 in
 // this order; a refusal changes nothing.
 fn checked_band(
     profile: Profile,
@@ -140,28 +144,25 @@ fn checked_band(
     fresh: bool,
     tables: &[u8],
     pictures: &[u8],
+    floats: &[f32],
     out: &mut [u8],
 ) -> Painted
     requires { ⌜ layout ≡ layoutOf (now w) ⌝ }
     ensures told { λ r. ⌜ r ≡ toldOf
-        (sceneOf profile (now (w .entry)) frame (now (tables .entry)) (now (pictures .entry)))
+        (sceneOf profile (now (w .entry)) frame (now (tables .entry)) (now (pictures .entry)) (now (floats .entry)))
         low high (now (out .entry)) errors ⌝ }
     ensures output { λ _. ⌜ now (out .exit) ≡ outputOf
-        (sceneOf profile (now (w .entry)) frame (now (tables .entry)) (now (pictures .entry)))
+        (sceneOf profile (now (w .entry)) frame (now (tables .entry)) (now (pictures .entry)) (now (floats .entry)))
         low high fresh (now (out .entry)) ⌝ }
 {
     let bits = bits_of(profile);
-    let total = layout.pictures.total;
-    let refusal = paint_refusal(
-        bits,
-        w,
-        total,
-        low,
-        high,
-        out.len(),
-        tables.len(),
-        pictures.len(),
-    );
+    let asked = layout.pictures;
+    let lent = Lengths {
+        tables: tables.len(),
+        pictures: pictures.len(),
+        floats: floats.len(),
+    };
+    let refusal = paint_refusal(bits, w, asked, low, high, out.len(), lent);
     let part = Part {
         low: low,
         high: high,
@@ -179,6 +180,7 @@ fn checked_band(
         fresh,
         tables,
         pictures,
+        floats,
         out,
     )
 }
@@ -194,14 +196,16 @@ pub fn band(
     high: u32,
     tables: &[u8],
     pictures: &[u8],
+    floats: &[f32],
     out: &mut [u8],
 ) -> Painted
     requires { ⌜ layout ≡ layoutOf (now w) ⌝ }
     ensures told { λ r. ⌜ r ≡ toldOf
-        (sceneOf profile (now (w .entry)) frame (now (tables .entry)) (now (pictures .entry)))
+        (sceneOf profile (now (w .entry)) frame (now (tables .entry)) (now (pictures .entry)) (now (floats .entry)))
         low high (now (out .entry)) errors ⌝ }
     ensures output { λ _. ⌜ now (out .exit) ≡ paintAfter
-        (sceneOf profile (now (w .entry)) frame (now (tables .entry)) (now (pictures .entry))) low high (now (out .entry)) ⌝ }
+        (sceneOf profile (now (w .entry)) frame (now (tables .entry)) (now (pictures .entry)) (now (floats .entry)))
+        low high (now (out .entry)) ⌝ }
 {
     checked_band(
         profile,
@@ -214,6 +218,7 @@ pub fn band(
         false,
         tables,
         pictures,
+        floats,
         out,
     )
 }
@@ -227,13 +232,16 @@ pub fn frame(
     errors: u32,
     tables: &[u8],
     pictures: &[u8],
+    floats: &[f32],
     out: &mut [u8],
 ) -> Painted
     requires { ⌜ layout ≡ layoutOf (now w) ⌝ }
     ensures told { λ r. ⌜ r ≡ toldOf
-        (sceneOf profile (now (w .entry)) frame (now (tables .entry)) (now (pictures .entry))) 0 8 (now (out .entry)) errors ⌝ }
+        (sceneOf profile (now (w .entry)) frame (now (tables .entry)) (now (pictures .entry)) (now (floats .entry)))
+        0 8 (now (out .entry)) errors ⌝ }
     ensures output { λ _. ⌜ now (out .exit) ≡ frameAfter
-        (sceneOf profile (now (w .entry)) frame (now (tables .entry)) (now (pictures .entry))) (now (out .entry)) ⌝ }
+        (sceneOf profile (now (w .entry)) frame (now (tables .entry)) (now (pictures .entry)) (now (floats .entry)))
+        (now (out .entry)) ⌝ }
 {
     checked_band(
         profile,
@@ -246,12 +254,13 @@ pub fn frame(
         true,
         tables,
         pictures,
+        floats,
         out,
     )
 }
 
 // Paints line y of a whole frame into `out`, which has that line alone, whatever it held. Refused with 12, 15, 13,
-// 6, 14 in this order; a refusal changes nothing.
+// 6, 14, 18 in this order; a refusal changes nothing.
 pub fn line(
     profile: Profile,
     w: &[u32; 52],
@@ -261,17 +270,25 @@ pub fn line(
     y: u32,
     tables: &[u8],
     pictures: &[u8],
+    floats: &[f32],
     out: &mut [u8],
 ) -> Painted
     requires { ⌜ layout ≡ layoutOf (now w) ⌝ }
     ensures told { λ r. ⌜ r ≡ lineToldOf
-        (sceneOf profile (now (w .entry)) frame (now (tables .entry)) (now (pictures .entry))) y (now (out .entry)) errors ⌝ }
+        (sceneOf profile (now (w .entry)) frame (now (tables .entry)) (now (pictures .entry)) (now (floats .entry)))
+        y (now (out .entry)) errors ⌝ }
     ensures output { λ _. ⌜ now (out .exit) ≡ lineAfter
-        (sceneOf profile (now (w .entry)) frame (now (tables .entry)) (now (pictures .entry))) y (now (out .entry)) ⌝ }
+        (sceneOf profile (now (w .entry)) frame (now (tables .entry)) (now (pictures .entry)) (now (floats .entry)))
+        y (now (out .entry)) ⌝ }
 {
     let bits = bits_of(profile);
-    let total = layout.pictures.total;
-    let refusal = line_refusal(bits, w, total, y, out.len(), tables.len(), pictures.len());
+    let asked = layout.pictures;
+    let lent = Lengths {
+        tables: tables.len(),
+        pictures: pictures.len(),
+        floats: floats.len(),
+    };
+    let refusal = line_refusal(bits, w, asked, y, out.len(), lent);
     let part = Part {
         low: 0,
         high: DEPTHS,
@@ -290,6 +307,7 @@ pub fn line(
         fresh,
         tables,
         pictures,
+        floats,
         out,
     )
 }

@@ -42,22 +42,33 @@ fn lay_line(
     row: &mut [u8],
     tables: &[u8],
     pictures: &[u8],
+    floats: &[f32],
     fresh: bool,
     ground: Ground,
     plan: Plan,
     y: usize,
 )
-    requires { ⌜ (length (now line) % pixelLen ≡ 0) × AllFit (now tables) (now pictures) (length (now line)) plan ⌝ }
+    requires { ⌜ (length (now line) % pixelLen ≡ 0) × AllFit (now tables) (now pictures) (now floats) (length (now line)) plan ⌝ }
     requires { ⌜ (plan .drawn ≡ true → Scratch (length (now line)) (now indexes) (now row)) ⌝ }
-    ensures { λ _. ⌜ LineLaid (Lends (now (tables .entry)) (now (pictures .entry))) plan fresh ground y
-        (now (line .entry)) (now (line .exit)) ⌝ }
+    ensures { λ _. ⌜ LineLaid (Lends (now (tables .entry)) (now (pictures .entry)) (now (floats .entry))) plan fresh
+        ground y (now (line .entry)) (now (line .exit)) ⌝ }
 {
-    let laid = lay_first(line, pictures, fresh, ground, plan.steps[0], plan.count, y);
+    let laid = lay_first(
+        line,
+        row,
+        pictures,
+        floats,
+        fresh,
+        ground,
+        plan.steps[0],
+        plan.count,
+        y,
+    );
     // A plan is copied for a call; where no layer is left there is none.
     if plan.count <= laid {
         return;
     }
-    paint_line(line, indexes, row, tables, pictures, plan, laid, y);
+    paint_line(line, indexes, row, tables, pictures, floats, plan, laid, y);
 }
 
 // The layers of a plan over the lines of a part, or over the background where the frame is a fresh one: it is laid
@@ -69,15 +80,16 @@ fn lay_lines(
     w: &[u32; 52],
     tables: &[u8],
     pictures: &[u8],
+    floats: &[f32],
     fresh: bool,
     plan: Plan,
     part: Part,
 )
     requires { ⌜ (length (now out) ≡ part .count * lineLen (now w)) × (0 < widthOf (now w)) ⌝ }
-    requires { ⌜ AllFit (now tables) (now pictures) (lineLen (now w)) plan ⌝ }
+    requires { ⌜ AllFit (now tables) (now pictures) (now floats) (lineLen (now w)) plan ⌝ }
     requires { ⌜ (plan .drawn ≡ true → Scratch (lineLen (now w)) (now indexes) (now row)) ⌝ }
-    ensures { λ _. ⌜ RowsLaid (Holds (now (w .entry)) (now (tables .entry)) (now (pictures .entry))) plan part fresh
-        (now (out .entry)) (now (out .exit)) ⌝ }
+    ensures { λ _. ⌜ RowsLaid (Holds (now (w .entry)) (now (tables .entry)) (now (pictures .entry)) (now (floats .entry)))
+        plan part fresh (now (out .entry)) (now (out .exit)) ⌝ }
 {
     let stride = PIXEL_LEN * (screen_width(w) as usize);
     let ground = ground_of(w);
@@ -92,6 +104,7 @@ fn lay_lines(
             row,
             tables,
             pictures,
+            floats,
             fresh,
             ground,
             plan,
@@ -101,21 +114,22 @@ fn lay_lines(
     }
 }
 
-// The same, with room to draw in where the plan has a graphics layer: to clear it costs more than many a line
+// The same, with room for rows that are made where the plan has such a layer: to clear it costs more than many a line
 // that has none.
 pub fn paint_rows(
     out: &mut [u8],
     w: &[u32; 52],
     tables: &[u8],
     pictures: &[u8],
+    floats: &[f32],
     fresh: bool,
     plan: Plan,
     part: Part,
 )
     requires { ⌜ (length (now out) ≡ part .count * lineLen (now w)) × (0 < widthOf (now w)) ⌝ }
-    requires { ⌜ AllFit (now tables) (now pictures) (lineLen (now w)) plan ⌝ }
-    ensures { λ _. ⌜ RowsLaid (Holds (now (w .entry)) (now (tables .entry)) (now (pictures .entry))) plan part fresh
-        (now (out .entry)) (now (out .exit)) ⌝ }
+    requires { ⌜ AllFit (now tables) (now pictures) (now floats) (lineLen (now w)) plan ⌝ }
+    ensures { λ _. ⌜ RowsLaid (Holds (now (w .entry)) (now (tables .entry)) (now (pictures .entry)) (now (floats .entry)))
+        plan part fresh (now (out .entry)) (now (out .exit)) ⌝ }
 {
     if plan.drawn {
         let mut indexes = index_room();
@@ -127,6 +141,7 @@ pub fn paint_rows(
             w,
             tables,
             pictures,
+            floats,
             fresh,
             plan,
             part,
@@ -142,6 +157,7 @@ pub fn paint_rows(
         w,
         tables,
         pictures,
+        floats,
         fresh,
         plan,
         part,

@@ -14,6 +14,7 @@ use Rattle.lists.specs.Steps.{through, keep}
 use Rattle.lists.proofs.Choice.{split, either-any}
 use Rattle.lists.proofs.Steps.{through-none, through-next, through-keep, keep-next, length-keep-le, Every, every-keep}
 use Rattle.profiles.specs.Profile.{bitsOf}
+use Rattle.words.specs.declared.fields.Layer.{Layer}
 use Rattle.words.specs.Fields.{layerOf}
 use Rattle.words.specs.Order.{orderOf, within, bandLayers}
 use Rattle.words.proofs.OrderLaws.{Enabled, orderOf-enabled, length-orderOf-le}
@@ -24,11 +25,15 @@ use Rattle.frames.specs.Scene.{Scene}
 use Rattle.frames.specs.Band.{missing, markAt, bandBy}
 use Rattle.frames.proofs.BandLaws.{band-through}
 use Rattle.plan.specs.Engine.Plan.{OfLayer, OfLayers, OfFirst, Made, blankStep, Planned, Pushed, Grown, Empty}
-use Rattle.plan.specs.Engine.Plan.{reaches, taken, partLayers, marked, markedBy, bandMarks}
+use Rattle.plan.specs.Engine.Plan.{reaches, taken, partLayers, isMade, marked, markedBy, bandMarks}
 
 -- a plan with another error word
 abbrev pub withErrors : Plan → ℕ → Plan
 withErrors p errors = record { steps = p .steps; count = p .count; drawn = p .drawn; errors = errors }
+
+-- a float layer's rows are made
+pub made-floats : (l : Layer) → l .floats ≡ true → isMade l ≡ true
+made-floats l f = ap (either (l .graphics)) f ∙ either-any (l .graphics)
 
 -- ---- one layer more
 
@@ -56,12 +61,12 @@ module _ (bits : ℕ) (w : List ℕ) (frame : ℕ) (tables : List ℕ) where
             ) m)
             (split j (length l)));
         drawn = λ j b. ⊎-elim
-            (λ (lt : j < length l) (e : layerOf w (getD (l ++ (n ∷ [])) j 0) .graphics ≡ true).
-            g .drawn ∙ ap (either (t .layer .graphics)) (q .drawn j lt (rw (List·getD-append l (n ∷ []) 0 j lt) at e))
-            ∙ either-any (t .layer .graphics))
-            (λ (ge : length l ≤ j) (e : layerOf w (getD (l ++ (n ∷ [])) j 0) .graphics ≡ true).
+            (λ (lt : j < length l) (e : isMade (layerOf w (getD (l ++ (n ∷ [])) j 0)) ≡ true).
+            g .drawn ∙ ap (either (isMade (t .layer))) (q .drawn j lt (rw (List·getD-append l (n ∷ []) 0 j lt) at e))
+            ∙ either-any (isMade (t .layer)))
+            (λ (ge : length l ≤ j) (e : isMade (layerOf w (getD (l ++ (n ∷ [])) j 0)) ≡ true).
             let z : j ≡ length l = omega arith in
-            let f : t .layer .graphics ≡ true = rw (m .layer) (rw (z, getD-append-seam l n []) at e) in
+            let f : isMade (t .layer) ≡ true = rw (m .layer) (rw (z, getD-append-seam l n []) at e) in
             g .drawn ∙ rw f)
             (split j (length l));
       }

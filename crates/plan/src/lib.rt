@@ -6,7 +6,7 @@ ghost use mathlib.Core.Bool.{true};
 ghost use Prim.Native.Nat.{_+_, _<_, _≤_};
 ghost use lib.ListN.{length, take, drop};
 ghost use Rattle.words.specs.Fields.{layerOf};
-ghost use Rattle.words.specs.Pictures.{pictureStart};
+ghost use Rattle.words.specs.Pictures.{startAt};
 ghost use Rattle.tables.specs.Geometry.{tablesLen, listLen, coloursLen, listKind};
 ghost use Rattle.draw.specs.Drawing.{listEnd};
 ghost use Rattle.frames.specs.Pixel.{bankBytes};
@@ -14,7 +14,8 @@ ghost use Rattle.colours.specs.Rows.{PaletteOf};
 ghost use Rattle.lists.specs.Tab.{tab};
 ghost use Rattle.words.specs.Order.{within};
 ghost use Rattle.order.specs.Layout.{layoutOf};
-ghost use Rattle.plan.specs.Engine.Plan.{Made, Planned, Pushed, Grown, Empty, reaches, partLayers, marked, bandMarks};
+ghost use Rattle.plan.specs.Engine.Plan.{Made, Planned, Pushed, Grown, Empty, reaches, partLayers, isMade};
+ghost use Rattle.plan.specs.Engine.Plan.{marked, bandMarks};
 use colours::palette;
 use draw::ListEnd;
 use draw::list_end;
@@ -42,7 +43,7 @@ pub struct Step {
     pub alpha: u8,
     // How many bits a pixel of a glyph has.
     pub bits: u8,
-    // Where its picture begins.
+    // Where its picture begins in its buffer.
     pub start: usize,
     // Where its active banks begin, and its list's end.
     pub list: usize,
@@ -65,7 +66,7 @@ pub struct Part {
 pub struct Plan {
     pub steps: [Step; 8],
     pub count: usize,
-    // Whether one of them is a graphics layer.
+    // Whether rows of one of them are made before they are laid.
     pub drawn: bool,
     // The error word, once all layers of the part's depths have set their bits, also those on none of its lines.
     pub errors: u32,
@@ -112,7 +113,7 @@ fn step_of(
     end: ListEnd,
     n: usize,
 ) -> Step
-    requires { ⌜ (bits ≤ 2) × (n < 8) × (length (now tables) ≡ tablesLen bits) × (start ≡ pictureStart (now w) n)
+    requires { ⌜ (bits ≤ 2) × (n < 8) × (length (now tables) ≡ tablesLen bits) × (start ≡ startAt (now w) n)
         × (layerOf (now w) n .graphics ≡ true → end ≡ listEnd (bankBytes bits (now w) (now tables) n listKind)) ⌝ }
     ensures { λ r. ⌜ Made bits (now (w .entry)) frame (now (tables .entry)) n r ⌝ }
 {
@@ -180,6 +181,16 @@ fn mark(errors: u32, layer: Layer, end: ListEnd, n: usize) -> u32
     errors | (1 << (4 * (n as u32)))
 }
 
+// Whether a layer's rows are drawn, or turned from floats to bytes, before they are laid.
+pub fn is_made(layer: Layer) -> bool
+    ensures { λ r. ⌜ r ≡ isMade layer ⌝ }
+{
+    if layer.graphics {
+        return true;
+    }
+    layer.floats
+}
+
 // The plan with a step behind it.
 fn pushed(mut plan: Plan, step: Step) -> Plan
     requires { ⌜ plan .count < 8 ⌝ }
@@ -188,7 +199,7 @@ fn pushed(mut plan: Plan, step: Step) -> Plan
     let at = plan.count;
     plan.steps[at] = step;
     plan.count = at + 1;
-    if step.layer.graphics {
+    if is_made(step.layer) {
         plan.drawn = true;
     }
     plan
@@ -206,7 +217,7 @@ fn with_layer(
     n: usize,
     part: Part,
 ) -> Plan
-    requires { ⌜ (bits ≤ 2) × (n < 8) × (length (now tables) ≡ tablesLen bits) × (starts ≡ tab 8 (pictureStart (now w)))
+    requires { ⌜ (bits ≤ 2) × (n < 8) × (length (now tables) ≡ tablesLen bits) × (starts ≡ tab 8 (startAt (now w)))
         × (plan .count < 8) ⌝ }
     ensures { λ r. ⌜ Grown bits (now (w .entry)) frame (now (tables .entry)) part n plan r ⌝ }
 {
@@ -233,6 +244,7 @@ fn empty(errors: u32) -> Plan
         layer: Layer {
             on: false,
             graphics: false,
+            floats: false,
             depth: 0,
             global: false,
             value: 0,

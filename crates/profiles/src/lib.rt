@@ -7,6 +7,8 @@ ghost use Rattle.profiles.specs.Profile.{bitsOf};
 pub struct Profile {
     // Whether a pixel of a glyph has two bits; else it has one.
     pub soft: bool,
+    // Whether float layers are let in.
+    pub floats: bool,
 }
 
 // The bits of a glyph's pixel.

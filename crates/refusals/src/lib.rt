@@ -1,14 +1,16 @@
 // What painting refuses, in document 01's order, by the words and the buffers' lengths.
 ghost use mathlib.Core.Path.{_≡_};
+ghost use mathlib.Core.Bool.{true, false};
 ghost use Prim.Native.Nat.{_≤_};
 ghost use lib.Dec.{eqb};
 ghost use Rattle.lists.specs.Choice.{pick, orElse};
-ghost use Rattle.answers.specs.Answers.{done, picturesLength};
+ghost use Rattle.answers.specs.Answers.{done, picturesLength, floatsLength};
 ghost use Rattle.words.specs.Pictures.{picturesLen};
 ghost use Rattle.frames.specs.Frame.{bandRefusal, sizeRefusal, outputRefusal, tablesRefusal};
 ghost use Rattle.frames.specs.Frame.{fillRefusal, paintRefusal};
 ghost use Rattle.frames.specs.Line.{numberRefusal, lengthRefusal, lineRefusal};
 use answers::DONE;
+use answers::FLOATS_LENGTH;
 use answers::NO_BAND;
 use answers::NO_LINE;
 use answers::NO_SIZE;
@@ -20,9 +22,17 @@ use mix::PIXEL_LEN;
 use tables::tables_len;
 use words::fields::screen_height;
 use words::fields::screen_width;
+use words::pictures::Pictures;
 
 // The depths that layers can have: a band's upper end is at most this.
 pub const DEPTHS: u32 = 8;
+
+// How long what is lent to read is: the floats in f32 numbers, the others in bytes.
+pub struct Lengths {
+    pub tables: usize,
+    pub pictures: usize,
+    pub floats: usize,
+}
 
 // 15, of a band's lower and upper end.
 fn band_refusal(low: u32, high: u32) -> u8
@@ -83,15 +93,26 @@ fn pictures_refusal(total: u32, pictures: usize) -> u8
     PICTURES_LENGTH
 }
 
-// 6 and then 14, of what is lent to read.
-fn lent_refusal(bits: usize, total: u32, tables: usize, pictures: usize) -> u8
-    requires { ⌜ bits ≤ 2 ⌝ }
-    ensures { λ r. ⌜ r ≡ orElse (tablesRefusal bits tables) (pick (eqb pictures total) done picturesLength) ⌝ }
+// 18, of so many floats, where so many are asked.
+fn floats_refusal(total: u32, floats: usize) -> u8
+    ensures { λ r. ⌜ r ≡ pick (eqb floats total) done floatsLength ⌝ }
 {
-    or_else(
-        tables_refusal(bits, tables),
-        pictures_refusal(total, pictures),
-    )
+    if floats == (total as usize) {
+        return DONE;
+    }
+    FLOATS_LENGTH
+}
+
+// 6, then 14 and then 18, of what is lent to read.
+fn lent_refusal(bits: usize, asked: Pictures, lent: Lengths) -> u8
+    requires { ⌜ bits ≤ 2 ⌝ }
+    ensures { λ r. ⌜ r ≡ orElse (tablesRefusal bits (lent .tables))
+        (orElse (pick (eqb (lent .pictures) (asked .bytes)) done picturesLength)
+        (pick (eqb (lent .floats) (asked .floats)) done floatsLength)) ⌝ }
+{
+    let pictures = pictures_refusal(asked.bytes, lent.pictures);
+    let floats = floats_refusal(asked.floats, lent.floats);
+    or_else(tables_refusal(bits, lent.tables), or_else(pictures, floats))
 }
 
 // What a fill answers for an output so long: 0, or the first of 12, 13.
@@ -101,23 +122,22 @@ pub fn fill_refusal(w: &[u32; 52], out: usize) -> u8
     or_else(size_refusal(w), output_refusal(w, out))
 }
 
-// What a band answers for buffers so long: 0, or the first of 15, 12, 13, 6, 14. A glyph's pixel has so many
-// bits, and the words' pictures have `total` bytes.
+// What a band answers for buffers so long: 0, or the first of 15, 12, 13, 6, 14, 18. A glyph's pixel has so many
+// bits, and the words ask for such pictures.
 pub fn paint_refusal(
     bits: usize,
     w: &[u32; 52],
-    total: u32,
+    asked: Pictures,
     low: u32,
     high: u32,
     out: usize,
-    tables: usize,
-    pictures: usize,
+    lent: Lengths,
 ) -> u8
-    requires { ⌜ (bits ≤ 2) × (total ≡ picturesLen (now w)) ⌝ }
-    ensures { λ r. ⌜ r ≡ paintRefusal bits (now (w .entry)) low high out tables pictures ⌝ }
+    requires { ⌜ (bits ≤ 2) × (asked .bytes ≡ picturesLen false (now w)) × (asked .floats ≡ picturesLen true (now w)) ⌝ }
+    ensures { λ r. ⌜ r ≡ paintRefusal bits (now (w .entry)) low high out (lent .tables) (lent .pictures) (lent .floats) ⌝ }
 {
-    let lent = lent_refusal(bits, total, tables, pictures);
-    let sized = or_else(size_refusal(w), or_else(output_refusal(w, out), lent));
+    let read = lent_refusal(bits, asked, lent);
+    let sized = or_else(size_refusal(w), or_else(output_refusal(w, out), read));
     or_else(band_refusal(low, high), sized)
 }
 
@@ -141,21 +161,20 @@ fn length_refusal(w: &[u32; 52], out: usize) -> u8
     OUTPUT_LENGTH
 }
 
-// What line y answers for buffers so long: 0, or the first of 12, 15, 13, 6, 14. A glyph's pixel has so many
-// bits, and the words' pictures have `total` bytes.
+// What line y answers for buffers so long: 0, or the first of 12, 15, 13, 6, 14, 18. A glyph's pixel has so many
+// bits, and the words ask for such pictures.
 pub fn line_refusal(
     bits: usize,
     w: &[u32; 52],
-    total: u32,
+    asked: Pictures,
     y: u32,
     out: usize,
-    tables: usize,
-    pictures: usize,
+    lent: Lengths,
 ) -> u8
-    requires { ⌜ (bits ≤ 2) × (total ≡ picturesLen (now w)) ⌝ }
-    ensures { λ r. ⌜ r ≡ lineRefusal bits (now (w .entry)) y out tables pictures ⌝ }
+    requires { ⌜ (bits ≤ 2) × (asked .bytes ≡ picturesLen false (now w)) × (asked .floats ≡ picturesLen true (now w)) ⌝ }
+    ensures { λ r. ⌜ r ≡ lineRefusal bits (now (w .entry)) y out (lent .tables) (lent .pictures) (lent .floats) ⌝ }
 {
-    let lent = lent_refusal(bits, total, tables, pictures);
-    let placed = or_else(number_refusal(w, y), or_else(length_refusal(w, out), lent));
+    let read = lent_refusal(bits, asked, lent);
+    let placed = or_else(number_refusal(w, y), or_else(length_refusal(w, out), read));
     or_else(size_refusal(w), placed)
 }

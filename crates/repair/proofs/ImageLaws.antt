@@ -19,14 +19,14 @@ use Rattle.lists.proofs.Over.{over-none}
 use Rattle.lists.proofs.Tab.{length-tab, getD-tab, tab-below}
 use Rattle.lists.proofs.Little.{bytes-back}
 use Rattle.answers.specs.Answers.{done, imageLength}
-use Rattle.words.specs.Check.{reservedAt, screenOf, checkOf}
+use Rattle.words.specs.Check.{reservedAt, kindAt, screenOf, checkOf, LetIn}
 use Rattle.words.specs.Image.{wordsFrom, wordsOf}
 use Rattle.words.proofs.ImageLaws.{words-long, words-fit, words-back}
 use Rattle.repair.specs.Steps.{mendOf}
 use Rattle.repair.specs.Changes.{changesBelow, changesOf, changedOf, putBy}
 use Rattle.repair.specs.Image.{imageOf, mendAnswer, mendImage, mendList, mendCount}
 use Rattle.repair.proofs.ListLaws.{length-changesOf, changedOf-le, changes-none, changesOf-put}
-use Rattle.repair.proofs.MendLaws.{mend-long, mend-small, mend-passes, mend-id, mend-twice}
+use Rattle.repair.proofs.MendLaws.{mend-long, mend-small, mend-passes, mend-passes-bytes, mend-id, mend-twice}
 
 -- ---- the cases
 
@@ -148,8 +148,12 @@ module _ (image : List ℕ) (long : length image ≡ 208) (bytes : (i : ℕ) →
         ∙ image-words (mendOf old) (mend-long old) (mend-small old (words-fit image bytes 0))
 
     -- "The result passes every start check"
-    pub image-passes : checkOf new ≡ done
+    pub image-passes : checkOf true new ≡ done
     image-passes = rw new-words (mend-passes old screened)
+
+    -- and where float layers are not let in, if there were none
+    pub image-passes-bytes : LetIn false old → checkOf false new ≡ done
+    image-passes-bytes l = rw new-words (mend-passes-bytes old l screened)
 
     again : mendImage (mendImage image) ≡ mendImage image
     unfolding mendImage
@@ -157,14 +161,16 @@ module _ (image : List ℕ) (long : length image ≡ 208) (bytes : (i : ℕ) →
         choose-keeps (λ (x : List ℕ). x ≡ mendImage image) (eqb (mendAnswer (mendImage image)) 0) _ (mendImage image)
         (λ _. ap imageOf (ap mendOf new-words ∙ mend-twice old screened) ∙ sym (image-done .0)) (λ _. refl)
 
-  -- "an image which passes already comes back the same with an empty list"
-  pub image-same : checkOf old ≡ done → (mendAnswer image ≡ 0) × ((mendImage image ≡ image) × (mendList image ≡ []))
+  -- "an image which passes already comes back the same with an empty list", wherever it passes
+  pub image-same : (floats : Bool) → checkOf floats old ≡ done
+      → (mendAnswer image ≡ 0) × ((mendImage image ≡ image) × (mendList image ≡ []))
   unfolding changesOf checkOf
-  image-same e =
-      let w : mendOf old ≡ old = mend-id old (words-long image 0) e in
+  image-same floats e =
+      let w : mendOf old ≡ old = mend-id old (words-long image 0) floats e in
       let z : mendAnswer image ≡ 0 =
       sym (answer-long image [] long)
-      ∙ orElse-left (screenOf old) _ (orElse-right (firstOf 52 (reservedAt old)) _ e) in (
+      ∙ orElse-left (screenOf old) _
+      (orElse-right (firstOf 8 (kindAt floats old)) _ (orElse-right (firstOf 52 (reservedAt old)) _ e)) in (
         z,
         (
           image-done z .0 ∙ ap imageOf w ∙ image-back image long bytes,

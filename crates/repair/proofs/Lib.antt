@@ -7,5 +7,6 @@ pub mod ImageLaws
 pub mod MendLaws
 pub mod Untouched
 pub mod OrderLaws
+pub mod KindLaws
 pub mod Unique
 pub mod Worked

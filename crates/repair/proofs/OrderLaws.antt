@@ -1,5 +1,5 @@
--- Steps that may trade places: 1 and 2, 2 and 3, 4 and 5. Where the order matters, `Worked` has images.
--- Assumes nothing.
+-- Steps that may trade places: 1 and 2, 2 and 3, 4 and 5; of K7's step `KindLaws` has it. Where the order matters,
+-- `Worked` has images. Assumes nothing.
 use mathlib.Core.Path.{_≡_, refl, sym, ap, ap₂, _∙_}
 use mathlib.Core.Bool.{Bool, true, false}
 use mathlib.Core.Logic.{⊎-elim}
@@ -9,12 +9,12 @@ use native.Mathlib.Omega.{arith}
 use lib.Bits.{bitAnd, and-step}
 use lib.Dec.{eqb}
 use lib.ListN.{length, getD, set, length-set}
-use lib.Seq.{getD-set-same, getD-set-other, set-comm}
+use lib.Seq.{getD-set-same, getD-set-other, set-set, set-comm}
 use Rattle.lists.specs.Choice.{choose, orElse}
 use Rattle.lists.specs.Runs.{run}
 use Rattle.lists.specs.Tab.{tab}
 use Rattle.lists.proofs.Choice.{same-or, choose-keeps}
-use Rattle.lists.proofs.Run.{run-cong, trade-step, trade-turns}
+use Rattle.lists.proofs.Run.{run-cong, run-hands, trade-step, trade-turns}
 use Rattle.lists.proofs.First.{first-cong}
 use Rattle.lists.proofs.Zero.{zeroFrom-cong}
 use Rattle.lists.proofs.Tab.{length-tab, getD-tab, is-tab}
@@ -22,19 +22,40 @@ use Rattle.words.specs.declared.fields.Layer.{Layer}
 use Rattle.words.specs.Fields.{lowOf, highOf, widthOf, heightOf, layerOf}
 use Rattle.words.specs.Check.{reservedBits, clashOf, clashAt, clashBelow}
 use Rattle.words.specs.Change.{offWord, depthWord, pairWord, withOff, withDepth, withPair}
-use Rattle.words.proofs.ChangeLaws.{Kept, kept-off, on-free, atDepth, withOff-same, withDepth-alike}
+use Rattle.words.proofs.ChangeLaws.{Kept, kept-off, on-free, ofBytes, atDepth, withOff-same, withDepth-alike}
 use Rattle.repair.specs.Steps.{clearedAt, cleared, isEmpty, emptyOff, emptiesOff, isLarge, largeOff, largesOff}
 use Rattle.repair.specs.Steps.{fitIn, fitAt, fit, holdsAt, heldAt, takenAt, freeOf, spreadAt, spread}
-use Rattle.repair.proofs.PlaceLaws.{clear-layer, lyingIn, fit-turn, fit-after}
+use Rattle.repair.proofs.PlaceLaws.{clear-layer, lyingIn, fit-turn}
 
 -- words of the right number
-abbrev Long : List ℕ → Type 0
+abbrev pub Long : List ℕ → Type 0
 Long w = length w ≡ 52
+
+-- ---- layers' first words changed
+
+abbrev pub firstBy : (ℕ → ℕ) → ℕ → List ℕ → List ℕ
+firstBy f n w = set w (4 + 6 * n) (f (getD w (4 + 6 * n) 0))
+
+-- two changes trade places where they do so of one word
+pub first-trade : (f g : ℕ → ℕ) → ((x : ℕ) → f (g x) ≡ g (f x)) → (n m : ℕ) (w : List ℕ) → n < 8 → Long w
+    → firstBy f n (firstBy g m w) ≡ firstBy g m (firstBy f n w)
+first-trade f g e n m w h long = ⊎-elim
+    (λ (q : n ≡ m). rw (← q) (one f g ∙ ap (set w (4 + 6 * n)) (e (getD w (4 + 6 * n) 0)) ∙ sym (one g f)))
+    (λ (ne : n ≡ m → ⊥). rw (
+      getD-set-other w (4 + 6 * m) (4 + 6 * n) (g (getD w (4 + 6 * m) 0)) 0 (λ q. ne (omega arith)),
+      getD-set-other w (4 + 6 * n) (4 + 6 * m) (f (getD w (4 + 6 * n) 0)) 0 (λ q. ne (omega arith)),
+    )
+    (set-comm w (4 + 6 * m) (4 + 6 * n) _ _ (λ q. ne (omega arith))))
+    (same-or n m)
+  where
+    one : (f g : ℕ → ℕ) → firstBy f n (firstBy g n w) ≡ set w (4 + 6 * n) (f (g (getD w (4 + 6 * n) 0)))
+    one f g =
+        rw (getD-set-same w (4 + 6 * n) (g (getD w (4 + 6 * n) 0)) 0 (omega arith)) (set-set w (4 + 6 * n) _ _)
 
 -- ---- layers switched off by a test
 
 -- by what the test says of word 1 and the layer
-abbrev offBy : (ℕ → Layer → Bool) → ℕ → List ℕ → List ℕ
+abbrev pub offBy : (ℕ → Layer → Bool) → ℕ → List ℕ → List ℕ
 offBy t n w = choose (t (getD w 1 0) (layerOf w n)) (withOff w n) w
 
 module _ (t : ℕ → Layer → Bool) (n : ℕ) (w : List ℕ) where
@@ -45,7 +66,7 @@ module _ (t : ℕ → Layer → Bool) (n : ℕ) (w : List ℕ) where
   no e = rw e refl
 
   module _ (h : n < 8) (long : Long w) where
-    long-off : Long (offBy t n w)
+    pub long-off : Long (offBy t n w)
     long-off =
         choose-keeps Long (t (getD w 1 0) (layerOf w n)) (withOff w n) w
         (λ _. kept-off w n h long .long ∙ long) (λ _. long)
@@ -61,14 +82,9 @@ module _ (t : ℕ → Layer → Bool) (n : ℕ) (w : List ℕ) where
         → u (getD (withOff w n) 1 0) (layerOf (withOff w n) m) ≡ b
     beside u m ne e = let k = kept-off w n h long in ap₂ u (k .first 1 (omega arith)) (k .other m ne) ∙ e
 
-off-trade : (w : List ℕ) (n m : ℕ) → (n ≡ m → ⊥) → withOff (withOff w n) m ≡ withOff (withOff w m) n
+off-trade : (n m : ℕ) (w : List ℕ) → n < 8 → Long w → withOff (withOff w m) n ≡ withOff (withOff w n) m
 unfolding withOff
-off-trade w n m ne =
-    rw (
-      getD-set-other w (4 + 6 * n) (4 + 6 * m) (offWord (getD w (4 + 6 * n) 0)) 0 (λ q. ne (omega arith)),
-      getD-set-other w (4 + 6 * m) (4 + 6 * n) (offWord (getD w (4 + 6 * m) 0)) 0 (λ q. ne (omega arith)),
-    )
-    (set-comm w (4 + 6 * n) (4 + 6 * m) _ _ (λ q. ne (omega arith)))
+off-trade = first-trade offWord offWord (λ x. refl)
 
 module _ (t u : ℕ → Layer → Bool) (t-on : (s : ℕ) (l : Layer) → l .on ≡ false → t s l ≡ false)
     (u-on : (s : ℕ) (l : Layer) → l .on ≡ false → u s l ≡ false) where
@@ -96,7 +112,7 @@ module _ (t u : ℕ → Layer → Bool) (t-on : (s : ℕ) (l : Layer) → l .on 
       go : (a : Bool) → t (getD w 1 0) (layerOf w n) ≡ a → (b : Bool) → u (getD w 1 0) (layerOf w m) ≡ b
           → offBy t n (offBy u m w) ≡ offBy u m (offBy t n w)
       go true p true q =
-          ap (offBy t n) (yes u m w q) ∙ yes t n (withOff w m) (beside u m w k long t n ne p) ∙ off-trade w m n en
+          ap (offBy t n) (yes u m w q) ∙ yes t n (withOff w m) (beside u m w k long t n ne p) ∙ off-trade n m w h long
           ∙ sym (ap (offBy u m) (yes t n w p) ∙ yes u m (withOff w n) (beside t n w h long u m en q))
       go true p false q =
           ap (offBy t n) (no u m w q) ∙ yes t n w p
@@ -133,27 +149,35 @@ clear-off v M m =
     go r s q e f = omega arith
 
 module _ (n : ℕ) (v : List ℕ) (h : n < 8) (long : Long v) where
-  off-cleared : cleared (withOff v n) ≡ withOff (cleared v) n
-  unfolding cleared withOff clearedAt
-  off-cleared =
+  -- a first word that is cleared and changed, in either order
+  pub first-cleared : (f : ℕ → ℕ)
+      → ((x : ℕ) → f x - bitAnd (f x) (getD reservedBits (4 + 6 * n) 0)
+      ≡ f (x - bitAnd x (getD reservedBits (4 + 6 * n) 0)))
+      → cleared (firstBy f n v) ≡ firstBy f n (cleared v)
+  unfolding cleared clearedAt
+  first-cleared f t =
       let k : ℕ = 4 + 6 * n in
       let c : List ℕ = tab 52 (clearedAt v) in
-      let w : List ℕ = set v k (offWord (getD v k 0)) in
-      sym (is-tab (set c k (offWord (getD c k 0))) 52 (clearedAt w) (length-set c k _ ∙ length-tab 52 (clearedAt v))
+      let w : List ℕ = set v k (f (getD v k 0)) in
+      sym (is-tab (set c k (f (getD c k 0))) 52 (clearedAt w) (length-set c k _ ∙ length-tab 52 (clearedAt v))
       (λ i b. ⊎-elim
       (λ (e : i ≡ k). rw (
         e,
-        getD-set-same c k (offWord (getD c k 0)) 0 (omega (arith, length-tab 52 (clearedAt v))),
-        getD-set-same v k (offWord (getD v k 0)) 0 (omega arith),
+        getD-set-same c k (f (getD c k 0)) 0 (omega (arith, length-tab 52 (clearedAt v))),
+        getD-set-same v k (f (getD v k 0)) 0 (omega arith),
         getD-tab 52 (clearedAt v) k (omega arith),
       )
-      (sym (clear-off (getD v k 0) (getD reservedBits k 0) (on-free n h))))
+      (sym (t (getD v k 0))))
       (λ (ne : i ≡ k → ⊥). rw (
-        getD-set-other c k i (offWord (getD c k 0)) 0 ne,
+        getD-set-other c k i (f (getD c k 0)) 0 ne,
         getD-tab 52 (clearedAt v) i b,
-        getD-set-other v k i (offWord (getD v k 0)) 0 ne,
+        getD-set-other v k i (f (getD v k 0)) 0 ne,
       ))
       (same-or i k)))
+
+  off-cleared : cleared (withOff v n) ≡ withOff (cleared v) n
+  unfolding withOff
+  off-cleared = first-cleared offWord (λ x. clear-off x _ (on-free n h))
 
   empty-cleared : cleared (emptyOff n v) ≡ emptyOff n (cleared v)
   unfolding emptyOff
@@ -195,114 +219,120 @@ unfolding freeOf takenAt
 free-alike u v w x a b =
     zeroFrom-cong 8 (takenAt u w) (takenAt v x) 0 (λ d. ap₂ orElse (held-alike u v a d) (held-alike w x b d))
 
--- a depth and a corner or a size, in either order
-pair-trade : (j : ℕ) (v : List ℕ) (n d m x y : ℕ) → (4 + 6 * n ≡ j + 6 * m → ⊥)
-    → withPair j (withDepth v n d) m x y ≡ withDepth (withPair j v m x y) n d
-unfolding withDepth withPair
-pair-trade j v n d m x y ne =
-    rw (
-      getD-set-other v (4 + 6 * n) (j + 6 * m) (depthWord (getD v (4 + 6 * n) 0) d) 0 (λ q. ne (sym q)),
-      getD-set-other v (j + 6 * m) (4 + 6 * n) (pairWord (getD v (j + 6 * m) 0) x y) 0 ne,
-    )
-    (set-comm v (4 + 6 * n) (j + 6 * m) _ _ ne)
-
-lying-on : (t : Bool) (l k : Layer) → k .on ≡ l .on → choose t k l .on ≡ l .on
-lying-on true l k e = e
-lying-on false l k e = refl
-
-lying-depth : (t : Bool) (l k : Layer) → k .depth ≡ l .depth → choose t k l .depth ≡ l .depth
-lying-depth true l k e = e
-lying-depth false l k e = refl
-
 same-alike : (v : List ℕ) → Alike v v
 same-alike v = record { on = λ k h. refl; depth = λ k h. refl }
 
-module _ (n m : ℕ) (v : List ℕ) (hn : n < 8) (hm : m < 8) (long : Long v) where
-  -- layer m put on the screen: what stays
-  turned : (t : Bool) → Kept m v (choose t (fitIn (widthOf v) (heightOf v) (layerOf v m) m v) v)
-      × (layerOf (choose t (fitIn (widthOf v) (heightOf v) (layerOf v m) m v) v) m
-      ≡ choose t (lyingIn (widthOf v) (heightOf v) (layerOf v m)) (layerOf v m))
-  turned = fit-turn m v hm long (widthOf v) (heightOf v)
+alike-then : {u v w : List ℕ} → Alike u v → Alike v w → Alike u w
+alike-then a b = record { on = λ n h. a .on n h ∙ b .on n h; depth = λ n h. a .depth n h ∙ b .depth n h }
 
-  fit-long : Long (fitAt m v)
-  unfolding fitAt
-  fit-long = turned (layerOf v m .on) .0 .long ∙ long
-
-  fit-alike : Alike (fitAt m v) v
-  unfolding fitAt
-  fit-alike =
-      let t = turned (layerOf v m .on) in
-      record {
-        on = λ k h. ⊎-elim
-            (λ (e : k ≡ m). rw e (ap (λ (l : Layer). l .on) (t .1) ∙ lying-on (layerOf v m .on) _ _ refl))
-            (λ (ne : k ≡ m → ⊥). ap (λ (l : Layer). l .on) (t .0 .other k ne))
-            (same-or k m);
-        depth = λ k h. ⊎-elim
-            (λ (e : k ≡ m). rw e (ap (λ (l : Layer). l .depth) (t .1) ∙ lying-depth (layerOf v m .on) _ _ refl))
-            (λ (ne : k ≡ m → ⊥). ap (λ (l : Layer). l .depth) (t .0 .other k ne))
-            (same-or k m);
-      }
-
-  module _ (d : ℕ) where
-    deep-first : getD (withDepth v n d) 1 0 ≡ getD v 1 0
-    unfolding withDepth
-    deep-first = getD-set-other v (4 + 6 * n) 1 _ 0 (λ q. omega arith)
-
-    deep-layer : atDepth (layerOf (withDepth v n d) m) 0 ≡ atDepth (layerOf v m) 0
-    deep-layer = withDepth-alike v n hn long d m
-
-    fit-deep : fitAt m (withDepth v n d) ≡ withDepth (fitAt m v) n d
-    unfolding fitAt fitIn
-    fit-deep =
-        rw (
-          ap lowOf deep-first,
-          ap highOf deep-first,
-          ap (λ (l : Layer). l .on) deep-layer,
-          ap (λ (l : Layer). l .x) deep-layer,
-          ap (λ (l : Layer). l .y) deep-layer,
-          ap (λ (l : Layer). l .width) deep-layer,
-          ap (λ (l : Layer). l .height) deep-layer,
-          pair-trade 6 v n d m _ _ (λ q. omega arith),
-          pair-trade 7 _ n d m _ _ (λ q. omega arith),
-        )
-        (go (layerOf v m .on) _ v)
-      where
-        go : (t : Bool) (a b : List ℕ) → choose t (withDepth a n d) (withDepth b n d) ≡ withDepth (choose t a b) n d
-        go true a b = refl
-        go false a b = refl
-
-  fit-spread : (w₀ : List ℕ) → fitAt m (spreadAt w₀ n v) ≡ spreadAt w₀ n (fitAt m v)
-  unfolding spreadAt
-  fit-spread w₀ =
-      rw (
-        clash-alike (fitAt m v) v fit-alike n hn,
-        free-alike w₀ w₀ (fitAt m v) v (same-alike w₀) fit-alike,
-      )
-      (go (eqb (clashBelow v n) 0))
-    where
-      go : (t : Bool) → fitAt m (choose t v (withDepth v n (freeOf w₀ v)))
-          ≡ choose t (fitAt m v) (withDepth (fitAt m v) n (freeOf w₀ v))
-      go true = refl
-      go false = fit-deep (freeOf w₀ v)
+-- a step that leaves bit 0 and the depths, and may trade places with a depth given, may do so with a turn
+spread-trade : (F : List ℕ → List ℕ) (w₀ : List ℕ) (n : ℕ) (v : List ℕ) → n < 8 → Alike (F v) v
+    → ((d : ℕ) → F (withDepth v n d) ≡ withDepth (F v) n d) → F (spreadAt w₀ n v) ≡ spreadAt w₀ n (F v)
+unfolding spreadAt
+spread-trade F w₀ n v h a deep =
+    rw (clash-alike (F v) v a n h, free-alike w₀ w₀ (F v) v (same-alike w₀) a) (go (eqb (clashBelow v n) 0))
+  where
+    go : (t : Bool)
+        → F (choose t v (withDepth v n (freeOf w₀ v))) ≡ choose t (F v) (withDepth (F v) n (freeOf w₀ v))
+    go true = refl
+    go false = deep (freeOf w₀ v)
 
 spread-long : (w₀ : List ℕ) (n : ℕ) (v : List ℕ) → n < 8 → Long v → Long (spreadAt w₀ n v)
 unfolding spreadAt withDepth
 spread-long w₀ n v h long =
     choose-keeps Long (eqb (clashBelow v n) 0) v _ (λ _. long) (λ _. length-set v (4 + 6 * n) _ ∙ long)
 
-whole-alike : (w : List ℕ) → Long w → Alike (fit w) w
-whole-alike w long =
-    let a = fit-after (widthOf w) (heightOf w) w long refl refl in
-    record {
-      on = λ n h. ap (λ (l : Layer). l .on) (a .layer n h) ∙ lying-on (layerOf w n .on) _ _ refl;
-      depth = λ n h. ap (λ (l : Layer). l .depth) (a .layer n h) ∙ lying-depth (layerOf w n .on) _ _ refl;
-    }
+-- and turns of such steps with step 5
+pub spread-turns : (f : ℕ → List ℕ → List ℕ)
+    → ((m : ℕ) (v : List ℕ) → m < 8 → Long v → Long (f m v) × Alike (f m v) v
+    × ((n : ℕ) → n < 8 → (d : ℕ) → f m (withDepth v n d) ≡ withDepth (f m v) n d))
+    → (w : List ℕ) → Long w → spread (run 0 8 f w) ≡ run 0 8 f (spread w)
+unfolding spread spreadAt
+spread-turns f turn w long =
+    run-cong 0 8 (spreadAt (run 0 8 f w)) (spreadAt w) (run 0 8 f w)
+    (λ n v b. ap (λ (d : ℕ). choose (eqb (clashBelow v n) 0) v (withDepth v n d))
+    (free-alike (run 0 8 f w) w v v whole (same-alike v)))
+    ∙ sym (trade-turns Long 8 f (spreadAt w) (λ m v h l. turn m v h l .0) (spread-long w)
+    (λ m n v hm hn l. spread-trade (f m) w n v hn (turn m v hm l .1) (turn m v hm l .2 n hn)) w long)
+  where
+    whole : Alike (run 0 8 f w) w
+    whole =
+        run-hands (λ n u. Long u × Alike u w) 8 f w (long, same-alike w)
+        (λ m v h u. (turn m v h (u .0) .0, alike-then (turn m v h (u .0) .1) (u .1))) .1
+
+-- a first word and a corner or a size, in either order
+pair-trade : (j : ℕ) (f : ℕ → ℕ) (v : List ℕ) (n m x y : ℕ) → (4 + 6 * n ≡ j + 6 * m → ⊥)
+    → withPair j (firstBy f n v) m x y ≡ firstBy f n (withPair j v m x y)
+unfolding withPair
+pair-trade j f v n m x y ne =
+    rw (
+      getD-set-other v (4 + 6 * n) (j + 6 * m) (f (getD v (4 + 6 * n) 0)) 0 (λ q. ne (sym q)),
+      getD-set-other v (j + 6 * m) (4 + 6 * n) (pairWord (getD v (j + 6 * m) 0) x y) 0 ne,
+    )
+    (set-comm v (4 + 6 * n) (j + 6 * m) _ _ ne)
+
+-- a layer as step 4 sees it
+abbrev seen : Layer → Layer
+seen l = atDepth (ofBytes l) 0
+
+module _ (m : ℕ) (v : List ℕ) (hm : m < 8) (long : Long v) where
+  -- layer m put on the screen: what stays
+  turned : (t : Bool) → Kept m v (choose t (fitIn (widthOf v) (heightOf v) (layerOf v m) m v) v)
+      × (layerOf (choose t (fitIn (widthOf v) (heightOf v) (layerOf v m) m v) v) m
+      ≡ choose t (lyingIn (widthOf v) (heightOf v) (layerOf v m)) (layerOf v m))
+  turned = fit-turn m v hm long (widthOf v) (heightOf v)
+
+  pub fit-long : Long (fitAt m v)
+  unfolding fitAt
+  fit-long = turned (layerOf v m .on) .0 .long ∙ long
+
+  -- what is so of the layer and of it lying elsewhere, is so of layers afterwards
+  pub fit-layers : (P : Layer → Layer → Type 0) → ((l : Layer) → P l l)
+      → P (lyingIn (widthOf v) (heightOf v) (layerOf v m)) (layerOf v m) → (k : ℕ) → P (layerOf (fitAt m v) k) (layerOf v k)
+  unfolding fitAt
+  fit-layers P same lying k =
+      let t = turned (layerOf v m .on) in
+      ⊎-elim
+      (λ (e : k ≡ m). rw (e, t .1) (choose-keeps (λ (l : Layer). P l (layerOf v m)) (layerOf v m .on) _ _
+      (λ _. lying) (λ _. same (layerOf v m))))
+      (λ (ne : k ≡ m → ⊥). rw (t .0 .other k ne) (same (layerOf v k)))
+      (same-or k m)
+
+  fit-alike : Alike (fitAt m v) v
+  fit-alike =
+      record {
+        on = λ k h. fit-layers (λ l o. l .on ≡ o .on) (λ l. refl) refl k;
+        depth = λ k h. fit-layers (λ l o. l .depth ≡ o .depth) (λ l. refl) refl k;
+      }
+
+  module _ (n : ℕ) (hn : n < 8) where
+    pub fit-first : (f : ℕ → ℕ) → seen (layerOf (firstBy f n v) m) ≡ seen (layerOf v m)
+        → fitAt m (firstBy f n v) ≡ firstBy f n (fitAt m v)
+    unfolding fitAt fitIn
+    fit-first f e =
+        let first : getD (firstBy f n v) 1 0 ≡ getD v 1 0 =
+        getD-set-other v (4 + 6 * n) 1 (f (getD v (4 + 6 * n) 0)) 0 (λ q. omega arith) in
+        rw (
+          ap lowOf first,
+          ap highOf first,
+          ap (λ (l : Layer). l .on) e,
+          ap (λ (l : Layer). l .x) e,
+          ap (λ (l : Layer). l .y) e,
+          ap (λ (l : Layer). l .width) e,
+          ap (λ (l : Layer). l .height) e,
+          pair-trade 6 f v n m _ _ (λ q. omega arith),
+          pair-trade 7 f _ n m _ _ (λ q. omega arith),
+        )
+        (go (layerOf v m .on) _ v)
+      where
+        go : (t : Bool) (a b : List ℕ) → choose t (firstBy f n a) (firstBy f n b) ≡ firstBy f n (choose t a b)
+        go true a b = refl
+        go false a b = refl
+
+    fit-deep : (d : ℕ) → fitAt m (withDepth v n d) ≡ withDepth (fitAt m v) n d
+    unfolding withDepth
+    fit-deep d = fit-first (λ x. depthWord x d) (ap ofBytes (withDepth-alike v n hn long d m))
 
 pub four-five : (w : List ℕ) → Long w → spread (fit w) ≡ fit (spread w)
-unfolding spread fit spreadAt
-four-five w long =
-    run-cong 0 8 (spreadAt (fit w)) (spreadAt w) (fit w)
-    (λ n v b. ap (λ (d : ℕ). choose (eqb (clashBelow v n) 0) v (withDepth v n d))
-    (free-alike (fit w) w v v (whole-alike w long) (same-alike v)))
-    ∙ sym (trade-turns Long 8 fitAt (spreadAt w) (λ m v h l. fit-long 0 m v (omega arith) h l) (spread-long w)
-    (λ m n v hm hn l. fit-spread n m v hn hm l w) w long)
+unfolding fit
+four-five = spread-turns fitAt (λ m v h l. (fit-long m v h l, fit-alike m v h l, fit-deep m v h l))

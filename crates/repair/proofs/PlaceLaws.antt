@@ -1,5 +1,5 @@
--- Steps 1 to 4, layer by layer: what each makes of a layer, and that afterwards no reserved bit is set and
--- each enabled layer lies on the screen. Assumes nothing.
+-- Steps 1 to 4 and K7's, layer by layer: what each makes of a layer, and that afterwards no reserved bit is set, no
+-- layer is of two kinds and each enabled layer lies on the screen. Assumes nothing.
 use mathlib.Core.Path.{_≡_, refl, sym, ap, _∙_}
 use mathlib.Core.Bool.{Bool, true, false, false≢true, not}
 use mathlib.Core.Logic.{inl, inr, ⊎-elim}
@@ -13,19 +13,20 @@ use lib.ListN.{getD, length}
 use Rattle.lists.specs.Choice.{choose, both, either}
 use Rattle.lists.specs.Runs.{firstOf, run}
 use Rattle.lists.proofs.Bits.{clear-plain, clear-field, clear-low}
-use Rattle.lists.proofs.Choice.{same-or, both-not, choose-keeps, either-left, either-right}
+use Rattle.lists.proofs.Choice.{same-or, both-false, both-not, choose-keeps, either-left, either-right}
 use Rattle.lists.proofs.First.{first-each}
 use Rattle.lists.proofs.Run.{run-hands, run-still}
 use Rattle.lists.proofs.Tab.{length-tab, getD-tab, tab-below, is-tab}
 use Rattle.words.specs.declared.fields.Layer.{Layer}
 use Rattle.words.specs.Fields.{lowOf, highOf, widthOf, heightOf, layerOf}
 use Rattle.words.specs.Check.{reservedBits, Placed, Plain, Accepted}
-use Rattle.words.specs.Change.{withOff}
+use Rattle.words.specs.Change.{withOff, withBytes}
 use Rattle.words.proofs.CheckLaws.{not-zero, above-zero}
-use Rattle.words.proofs.ChangeLaws.{mask-free, Kept, kept-id, kept-then, kept-off, kept-pair}
-use Rattle.words.proofs.ChangeLaws.{switchedOff, lyingAt, withOff-same, fit-same, corner-own, size-own}
-use Rattle.repair.specs.Steps.{clearedAt, cleared, isEmpty, emptyOff, emptiesOff, isLarge, largeOff, largesOff}
-use Rattle.repair.specs.Steps.{placeIn, sizeIn, fitIn, fitAt, fit, placed}
+use Rattle.words.proofs.ChangeLaws.{mask-free, Kept, kept-id, kept-then, kept-off, kept-bytes, kept-pair}
+use Rattle.words.proofs.ChangeLaws.{switchedOff, ofBytes, lyingAt, withOff-same, withBytes-same, fit-same}
+use Rattle.words.proofs.ChangeLaws.{corner-own, size-own}
+use Rattle.repair.specs.Steps.{clearedAt, cleared, isTwofold, oneKindAt, oneKind, isEmpty, emptyOff, emptiesOff}
+use Rattle.repair.specs.Steps.{isLarge, largeOff, largesOff, placeIn, sizeIn, fitIn, fitAt, fit, placed}
 use Rattle.repair.proofs.AxisLaws.{axis-stays, axis-inside, axis-field}
 
 -- ---- step 1
@@ -43,6 +44,7 @@ clear-layer w n h =
       getD-tab 52 (clearedAt w) (9 + 6 * n) (omega arith),
       clear-low 1 (getD w (4 + 6 * n) 0) _ (mask-free 4 0 1 refl n h),
       clear-field 1 1 (getD w (4 + 6 * n) 0) _ (mask-free 4 1 1 refl n h),
+      clear-field 2 1 (getD w (4 + 6 * n) 0) _ (mask-free 4 2 1 refl n h),
       clear-field 8 3 (getD w (4 + 6 * n) 0) _ (mask-free 4 8 3 refl n h),
       clear-field 31 1 (getD w (5 + 6 * n) 0) _ (mask-free 5 31 1 refl n h),
       clear-low 8 (getD w (5 + 6 * n) 0) _ (mask-free 5 0 8 refl n h),
@@ -141,7 +143,10 @@ module _ (W H : ℕ) (R : Layer → Layer) (f : ℕ → List ℕ → List ℕ) (
         layer = u .below;
       }
 
--- what steps 2, 3 and 4 make of a layer
+-- what K7's step makes of a layer, and steps 2, 3 and 4
+abbrev pub ofOneKind : Layer → Layer
+ofOneKind l = choose (isTwofold l) (ofBytes l) l
+
 abbrev pub emptied : Layer → Layer
 emptied l = choose (isEmpty l) (switchedOff l) l
 
@@ -159,6 +164,11 @@ abbrev pub broughtIn : ℕ → ℕ → Layer → Layer
 broughtIn W H l = fitting W H (trimmed W H (emptied l))
 
 module _ (n : ℕ) (v : List ℕ) (h : n < 8) (long : length v ≡ 52) where
+  kind-turn : (t : Bool) → Kept n v (choose t (withBytes v n) v)
+      × (layerOf (choose t (withBytes v n) v) n ≡ choose t (ofBytes (layerOf v n)) (layerOf v n))
+  kind-turn true = (kept-bytes v n h long, withBytes-same v n h long)
+  kind-turn false = (kept-id n v, refl)
+
   off-turn : (t : Bool) → Kept n v (choose t (withOff v n) v)
       × (layerOf (choose t (withOff v n) v) n ≡ choose t (switchedOff (layerOf v n)) (layerOf v n))
   off-turn true = (kept-off v n h long, withOff-same v n h long)
@@ -178,6 +188,11 @@ module _ (n : ℕ) (v : List ℕ) (h : n < 8) (long : length v ≡ 52) where
   fit-turn W H false = (kept-id n v, refl)
 
 module _ (W H : ℕ) (w : List ℕ) (long : length w ≡ 52) (across : widthOf w ≡ W) (down : heightOf w ≡ H) where
+  kinds-after : After W H ofOneKind w (oneKind w)
+  unfolding oneKind oneKindAt
+  kinds-after =
+      all-turns W H ofOneKind oneKindAt (λ n v h l a d. kind-turn n v h l (isTwofold (layerOf v n))) w long across down
+
   empties-after : After W H emptied w (emptiesOff w)
   unfolding emptiesOff emptyOff
   empties-after =
@@ -189,7 +204,7 @@ module _ (W H : ℕ) (w : List ℕ) (long : length w ≡ 52) (across : widthOf w
       all-turns W H (trimmed W H) largeOff (λ n v h l a d. rw (a, d) (off-turn n v h l (isLarge W H (layerOf v n))))
       w long across down
 
-  pub fit-after : After W H (fitting W H) w (fit w)
+  fit-after : After W H (fitting W H) w (fit w)
   unfolding fit fitAt
   fit-after =
       all-turns W H (fitting W H) fitAt (λ n v h l a d. rw (a, d) (fit-turn n v h l W H (layerOf v n .on)))
@@ -221,18 +236,19 @@ module _ (w : List ℕ) where
   unfolding cleared clearedAt
   clear-small s = tab-below 52 (2 ^ 32) (clearedAt w) (omega arith) (λ i. omega (arith, s i))
 
-  -- all four steps
-  brought : After (widthOf w) (heightOf w) (broughtIn (widthOf w) (heightOf w)) (cleared w) (placed w)
+  -- all of them
+  brought : After (widthOf w) (heightOf w) (λ l. broughtIn (widthOf w) (heightOf w) (ofOneKind l)) (cleared w) (placed w)
   unfolding placed
   brought =
       let W = widthOf w in
       let H = heightOf w in
-      let a = empties-after W H (cleared w) clear-long clear-across clear-down in
-      let b = larges-after W H (emptiesOff (cleared w)) (a .long) (a .across) (a .down) in
-      let c = fit-after W H (largesOff (emptiesOff (cleared w))) (b .long) (b .across) (b .down) in
-      after-then (after-then a b) c
+      let k = kinds-after W H (cleared w) clear-long clear-across clear-down in
+      let a = empties-after W H (oneKind (cleared w)) (k .long) (k .across) (k .down) in
+      let b = larges-after W H (emptiesOff (oneKind (cleared w))) (a .long) (a .across) (a .down) in
+      let c = fit-after W H (largesOff (emptiesOff (oneKind (cleared w)))) (b .long) (b .across) (b .down) in
+      after-then (after-then (after-then k a) b) c
 
-  -- no reserved bit is set, and each layer is brought in
+  -- no reserved bit is set, and each layer, of one kind, is brought in
   pub placed-long : length (placed w) ≡ 52
   placed-long = brought .long
 
@@ -248,9 +264,42 @@ module _ (w : List ℕ) where
   pub placed-small : ((i : ℕ) → getD w i 0 < 2 ^ 32) → (i : ℕ) → getD (placed w) i 0 < 2 ^ 32
   placed-small s = brought .small (clear-small s)
 
-  pub placed-layer : (n : ℕ) → n < 8 → layerOf (placed w) n ≡ broughtIn (widthOf w) (heightOf w) (layerOf w n)
+  pub placed-layer : (n : ℕ) → n < 8
+      → layerOf (placed w) n ≡ broughtIn (widthOf w) (heightOf w) (ofOneKind (layerOf w n))
   placed-layer n h =
-      brought .layer n h ∙ ap (broughtIn (widthOf w) (heightOf w)) (clear-layer w n h)
+      brought .layer n h ∙ ap (λ (l : Layer). broughtIn (widthOf w) (heightOf w) (ofOneKind l)) (clear-layer w n h)
+
+-- ---- a layer of one kind
+
+-- but for bit 2 it is what it was
+pub kind-same : (l : Layer) → ofBytes (ofOneKind l) ≡ ofBytes l
+kind-same l = choose-keeps (λ (k : Layer). ofBytes k ≡ ofBytes l) (isTwofold l) (ofBytes l) l (λ _. refl) (λ _. refl)
+
+-- bit 2 is set where it was and bit 1 is not
+pub kind-floats : (l : Layer) → ofOneKind l .floats ≡ both (not (l .graphics)) (l .floats)
+unfolding isTwofold
+kind-floats l = go (l .graphics) (l .floats) refl
+  where
+    go : (g f : Bool) → l .floats ≡ f → choose (both g f) (ofBytes l) l .floats ≡ both (not g) f
+    go true true e = refl
+    go true false e = e
+    go false f e = e
+
+-- steps 2 to 4 leave bits 1 and 2
+pub brought-kind : (W H : ℕ) (l : Layer)
+    → (broughtIn W H l .graphics ≡ l .graphics) × (broughtIn W H l .floats ≡ l .floats)
+brought-kind W H l =
+    fits (trimmed W H (emptied l) .on) (trimmed W H (emptied l)) (offs (isLarge W H (emptied l)) (emptied l)
+    (offs (isEmpty l) l (refl, refl)))
+  where
+    Same : Layer → Type 0
+    Same k = (k .graphics ≡ l .graphics) × (k .floats ≡ l .floats)
+
+    offs : (t : Bool) (k : Layer) → Same k → Same (choose t (switchedOff k) k)
+    offs t k s = choose-keeps Same t (switchedOff k) k (λ _. s) (λ _. s)
+
+    fits : (t : Bool) (k : Layer) → Same k → Same (choose t (lyingIn W H k) k)
+    fits t k s = choose-keeps Same t (lyingIn W H k) k (λ _. s) (λ _. s)
 
 -- ---- a layer brought in lies on the screen
 
@@ -317,6 +366,12 @@ module _ (w : List ℕ) (long : length w ≡ 52) (acc : Accepted w) where
   unfolding cleared clearedAt
   clear-id = sym (is-tab w 52 (clearedAt w) long (λ i h. rw (acc .plain i h) (omega arith)))
 
+  kind-stays : (n : ℕ) → n < 8 → oneKindAt n w ≡ w
+  unfolding oneKindAt isTwofold
+  kind-stays n h =
+      unchosen _ _
+      (both-false (layerOf w n .graphics) _ (λ g f. false≢true (sym (acc .kinds n h f) ∙ g)))
+
   empty-stays : (n : ℕ) → n < 8 → emptyOff n w ≡ w
   unfolding emptyOff isEmpty
   empty-stays n h =
@@ -346,10 +401,11 @@ module _ (w : List ℕ) (long : length w ≡ 52) (acc : Accepted w) where
       (λ _. refl)
 
   pub placed-id : placed w ≡ w
-  unfolding placed emptiesOff largesOff fit
+  unfolding placed oneKind emptiesOff largesOff fit
   placed-id =
       rw (
         clear-id,
+        run-still 8 oneKindAt w kind-stays,
         run-still 8 emptyOff w empty-stays,
         run-still 8 largeOff w large-stays,
         run-still 8 fitAt w fit-stays,

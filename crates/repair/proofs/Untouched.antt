@@ -1,8 +1,8 @@
--- Words that a step does not name stay as they are. Steps 2, 3 and 5 name the layers' words 4+6n, step 4
--- names 6+6n and 7+6n, and step 1 reserved bits. Assumes nothing.
+-- Words that a step does not name stay as they are. K7's step and steps 2, 3 and 5 name the layers' words 4+6n,
+-- step 4 names 6+6n and 7+6n, and step 1 reserved bits. Assumes nothing.
 use mathlib.Core.Path.{_≡_, refl, _∙_}
 use mathlib.Core.List.{List}
-use Prim.Native.Nat.{ℕ, _+_, _-_, _*_, _<_}
+use Prim.Native.Nat.{ℕ, _+_, _*_, _<_}
 use native.Mathlib.Omega.{arith}
 use lib.Dec.{eqb}
 use lib.ListN.{getD, set}
@@ -13,9 +13,10 @@ use Rattle.lists.proofs.Run.{run-hands}
 use Rattle.lists.proofs.Tab.{getD-tab}
 use Rattle.words.specs.Fields.{widthOf, heightOf, layerOf}
 use Rattle.words.specs.Check.{Plain, clashBelow}
-use Rattle.words.specs.Change.{pairWord, withOff, withDepth, withPair}
-use Rattle.repair.specs.Steps.{clearedAt, cleared, isEmpty, emptyOff, emptiesOff, isLarge, largeOff, largesOff}
-use Rattle.repair.specs.Steps.{placeIn, fitIn, fitAt, fit, spreadAt, spread, placed, mendOf}
+use Rattle.words.specs.Change.{pairWord, withOff, withBytes, withDepth, withPair}
+use Rattle.repair.specs.Steps.{clearedAt, cleared, isTwofold, oneKindAt, oneKind, isEmpty, emptyOff, emptiesOff}
+use Rattle.repair.specs.Steps.{isLarge, largeOff, largesOff, placeIn, fitIn, fitAt, fit, spreadAt, spread}
+use Rattle.repair.specs.Steps.{placed, mendOf}
 
 -- word i is none of the layers' words j + 6n
 abbrev pub None : ℕ → ℕ → Type 0
@@ -32,6 +33,13 @@ module _ (i : ℕ) where
   clear-untouched w h p = getD-tab 52 (clearedAt w) i h ∙ rw p (omega arith)
 
   module _ (kinds : None 4 i) where
+    -- K7's
+    pub kinds-untouched : (w : List ℕ) → getD (oneKind w) i 0 ≡ getD w i 0
+    unfolding oneKind oneKindAt withBytes
+    kinds-untouched =
+        all-same oneKindAt (λ n v. choose-keeps (λ (x : List ℕ). getD x i 0 ≡ getD v i 0) (isTwofold (layerOf v n)) _ v
+        (λ _. getD-set-other v (4 + 6 * n) i _ 0 (kinds n)) (λ _. refl))
+
     off-same : (v : List ℕ) (n : ℕ) → getD (withOff v n) i 0 ≡ getD v i 0
     unfolding withOff
     off-same v n = getD-set-other v (4 + 6 * n) i _ 0 (kinds n)
@@ -68,13 +76,13 @@ module _ (i : ℕ) where
       getD-set-other p (7 + 6 * n) i _ 0 (sizes n) ∙ getD-set-other v (6 + 6 * n) i _ 0 (places n))
       (λ _. refl))
 
-  -- all of them: a word that none of 2 to 5 names loses its reserved bits, and has it none it stays
+  -- all of them: a word that none but 1 names loses its reserved bits, and has it none it stays
   module _ (kinds : None 4 i) (places : None 6 i) (sizes : None 7 i) (w : List ℕ) (h : i < 52) where
     pub mend-unnamed : getD (mendOf w) i 0 ≡ clearedAt w i
     unfolding mendOf placed cleared
     mend-unnamed =
         spread-untouched kinds (placed w) ∙ fit-untouched places sizes _ ∙ larges-untouched kinds _
-        ∙ empties-untouched kinds _ ∙ getD-tab 52 (clearedAt w) i h
+        ∙ empties-untouched kinds _ ∙ kinds-untouched kinds _ ∙ getD-tab 52 (clearedAt w) i h
 
     pub mend-untouched : Plain w i → getD (mendOf w) i 0 ≡ getD w i 0
     unfolding clearedAt

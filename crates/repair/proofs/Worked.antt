@@ -13,10 +13,10 @@ use Rattle.answers.specs.Answers.{done}
 use Rattle.words.specs.Fields.{layerOf}
 use Rattle.words.specs.Check.{screenOf, clashOf, clashAt, clashBelow}
 use Rattle.words.specs.Image.{wordsFrom}
-use Rattle.words.specs.Change.{withOff, withDepth, withPair}
-use Rattle.repair.specs.Steps.{clearedAt, cleared, isEmpty, emptyOff, emptiesOff, isLarge, largeOff, largesOff}
-use Rattle.repair.specs.Steps.{placeIn, sizeIn, fitIn, fitAt, fit, holdsAt, heldAt, takenAt, freeOf, spreadAt}
-use Rattle.repair.specs.Steps.{spread, placed, mendOf}
+use Rattle.words.specs.Change.{withOff, withBytes, withDepth, withPair}
+use Rattle.repair.specs.Steps.{clearedAt, cleared, isTwofold, oneKindAt, oneKind, isEmpty, emptyOff, emptiesOff}
+use Rattle.repair.specs.Steps.{isLarge, largeOff, largesOff, placeIn, sizeIn, fitIn, fitAt, fit}
+use Rattle.repair.specs.Steps.{holdsAt, heldAt, takenAt, freeOf, spreadAt, spread, placed, mendOf}
 use Rattle.repair.specs.Changes.{changesOf, changesBelow, changedOf}
 use Rattle.repair.specs.Image.{imageOf, mendAnswer, mendImage, mendList, mendCount}
 
@@ -48,9 +48,9 @@ two l m = image (l ++ m ++ off ++ off ++ off ++ off ++ off ++ off)
 
 -- the definitions of all steps opened, by one name
 unfoldable stepsOpen : Unit {0}
-unfolding mendOf placed cleared clearedAt emptiesOff emptyOff isEmpty largesOff largeOff isLarge fit fitAt fitIn placeIn
-    sizeIn spread spreadAt freeOf takenAt heldAt holdsAt zeroFrom firstOf clashBelow clashAt clashOf layerOf withOff
-    withDepth withPair tab run
+unfolding mendOf placed cleared clearedAt oneKind oneKindAt isTwofold emptiesOff emptyOff isEmpty largesOff largeOff
+    isLarge fit fitAt fitIn placeIn sizeIn spread spreadAt freeOf takenAt heldAt holdsAt zeroFrom firstOf clashBelow
+    clashAt clashOf layerOf withOff withBytes withDepth withPair tab run
 stepsOpen = tt
 
 -- all eight layers of depth 3: layer 0 keeps it, the others get those that none had, the smallest first
@@ -97,6 +97,25 @@ high-graphics = refl
 no-width : mendOf (one (layer 1 0x0fff_0fff 0x0001_0000)) ≡ one (layer 0 0x0fff_0fff 0x0001_0000)
 unfolding stepsOpen
 no-width = refl
+
+-- bits 1 and 2 in an enabled layer and in a disabled one: bit 2 is cleared
+two-kinds : mendOf (two (layer 7 0 0x0001_0001) (layer 6 0 0)) ≡ two (layer 3 0 0x0001_0001) (layer 2 0 0)
+unfolding stepsOpen
+two-kinds = refl
+
+-- bit 2 alone stays, enabled or not
+floats-alone : mendOf (two (layer 5 0 0x0001_0001) (layer 4 0 0)) ≡ two (layer 5 0 0x0001_0001) (layer 4 0 0)
+unfolding stepsOpen
+floats-alone = refl
+
+-- a float layer is a frame layer: larger than the screen it is switched off, and with bit 1 too it is cut
+large-floats : mendOf (one (layer 5 0x0fff_0fff 0x0fff_0fff)) ≡ one (layer 4 0x0fff_0fff 0x0fff_0fff)
+unfolding stepsOpen
+large-floats = refl
+
+large-two-kinds : mendOf (one (layer 7 0x0fff_0fff 0x0fff_0fff)) ≡ one (layer 3 0x0000_0000 0x0004_0008)
+unfolding stepsOpen
+large-two-kinds = refl
 
 -- with every bit of its other fields set
 abbrev full : ℕ → List ℕ

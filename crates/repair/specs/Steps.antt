@@ -1,5 +1,5 @@
--- Mending of words: 02 K4, "In order: ..", step by step. Each step is a function of words, and all but the
--- first go from layer 0 to layer 7. Assumes nothing.
+-- Mending of words: 02 K4, "In order: ..", step by step, and after the first the step of 02 K7. Each is a function
+-- of words, and all but the first go from layer 0 to layer 7. Assumes nothing.
 use Prim.Native.Nat.{ℕ, _+_, _-_}
 use mathlib.Core.Bool.{Bool, not}
 use mathlib.Core.List.{List}
@@ -15,7 +15,7 @@ use Rattle.words.specs.declared.fields.Layer.{Layer}
 use Rattle.words.specs.Fields.{widthOf, heightOf, layerOf}
 use Rattle.words.specs.Order.{here}
 use Rattle.words.specs.Check.{reservedBits, clashBelow}
-use Rattle.words.specs.Change.{withOff, withDepth, withPair}
+use Rattle.words.specs.Change.{withOff, withBytes, withDepth, withPair}
 
 -- ---- 1. "clear reserved bits"
 
@@ -25,6 +25,20 @@ clearedAt w i = getD w i 0 - bitAnd (getD w i 0) (getD reservedBits i 0)
 
 unfoldable pub cleared : List ℕ → List ℕ
 cleared w = tab 52 (clearedAt w)
+
+-- ---- K7. "K4 clears bit 2 where bit 1 is set too": in disabled layers as well, as a start refuses both bits
+-- there. The request does not say where it stands among the five, and it does not matter (`mend-kinds-last`)
+
+-- a layer of graphics and of floats at once
+unfoldable pub isTwofold : Layer → Bool
+isTwofold l = both (l .graphics) (l .floats)
+
+-- layer n
+unfoldable pub oneKindAt : ℕ → List ℕ → List ℕ
+oneKindAt n w = choose (isTwofold (layerOf w n)) (withBytes w n) w
+
+unfoldable pub oneKind : List ℕ → List ℕ
+oneKind w = run 0 8 oneKindAt w
 
 -- ---- 2. "switch off enabled layers of zero size"
 
@@ -102,9 +116,9 @@ spread w = run 0 8 (spreadAt w) w
 
 -- ---- together
 
--- the first four
+-- the first four, and K7's
 unfoldable pub placed : List ℕ → List ℕ
-placed w = fit (largesOff (emptiesOff (cleared w)))
+placed w = fit (largesOff (emptiesOff (oneKind (cleared w))))
 
 unfoldable pub mendOf : List ℕ → List ℕ
 mendOf w = spread (placed w)

@@ -1,5 +1,5 @@
-// Repair of a register image: 02 K4. Each step is a function of the 52 words; the call mends an image in
-// place and lists what was changed.
+// Repair of a register image: 02 K4, with the step of K7. Each step is a function of the 52 words; the call
+// mends an image in place and lists what was changed.
 ghost use mathlib.Core.Path.{_≡_};
 ghost use Rattle.lists.specs.Over.{over};
 ghost use Rattle.repair.specs.Steps.{placed, mendOf};
@@ -7,6 +7,7 @@ ghost use Rattle.repair.specs.Image.{mendAnswer, mendImage, mendList, me
 use crate::changes::list_changes;
 use crate::clear::clear;
 use crate::depths::spread;
+use crate::kinds::one_kind;
 use crate::places::fit;
 use crate::sizes::empties_off;
 use crate::sizes::larges_off;
@@ -20,14 +21,15 @@ use words::image::words_at;
 mod changes;
 mod clear;
 mod depths;
+mod kinds;
 mod places;
 mod sizes;
 
-// The first four steps: no reserved bit, and each enabled layer on the screen.
+// The first four steps, and K7's: no reserved bit, each layer of one kind, and each enabled one on the screen.
 fn place(w: &[u32; 52]) -> [u32; 52]
     ensures { λ r. ⌜ r ≡ placed (now (w .entry)) ⌝ }
 {
-    fit(larges_off(empties_off(clear(w))))
+    fit(larges_off(empties_off(one_kind(clear(w)))))
 }
 
 // The words mended. Words with no screen have no repair: the call refuses them.

@@ -1,27 +1,29 @@
 -- The steps of a part's plan fit the scene's lines and the buffers that it lends; and a step that fits has its
--- rows among the pictures. Assumes nothing.
+-- rows in its picture's buffer. Assumes nothing.
 use mathlib.Core.Path.{_≡_, ap}
-use mathlib.Core.Bool.{true, false}
+use mathlib.Core.Bool.{Bool, true, false}
 use mathlib.Core.List.{List}
 use Prim.Native.Nat.{ℕ, _+_, _-_, _*_, _≤_, _<_}
 use native.Mathlib.Nat.{mul-comm}
 use native.Mathlib.Omega.{arith}
+use lib.Ieee.{Float}
 use lib.ListN.{length, getD}
-use Rattle.lists.proofs.Sum.{sum-room}
 use Rattle.lists.proofs.Digits.{row-room}
 use Rattle.profiles.specs.Profile.{bitsOf}
 use Rattle.profiles.proofs.ProfileLaws.{bits-some, bits-few}
 use Rattle.words.specs.Fields.{widthOf, layerOf}
-use Rattle.words.specs.Pictures.{pictureLen, pictureLenAt, pictureStart, picturesLen}
+use Rattle.words.specs.Pictures.{picturesLen}
+use Rattle.words.proofs.PictureLaws.{own-room}
 use Rattle.tables.specs.Geometry.{kindLen, listKind, stringsKind, fontKind}
 use Rattle.draw.specs.declared.ListEnd.{ListEnd}
 use Rattle.frames.specs.Scene.{Scene}
 use Rattle.plan.specs.declared.Step.{Step}
 use Rattle.plan.specs.declared.Plan.{Plan}
 use Rattle.plan.specs.declared.Part.{Part}
-use Rattle.plan.specs.Engine.Plan.{blankStep, partLayers, OfLayer, OfLayers}
-use Rattle.scanline.specs.Engine.Lines.{Lent, Banked, Pictured, Fit, AllFit, OnRow, rowStart}
-use Rattle.plan.proofs.PlanLaws.{partLayers-enabled, length-partLayers-le, planned-layer}
+use Rattle.plan.specs.Engine.Plan.{blankStep, isMade, partLayers, OfLayer, OfLayers}
+use Rattle.scanline.specs.Engine.Lines.{Lent, Banked, Pictured, Fit, AllFit, Makable, OnRow, pictureEnd}
+use Rattle.scanline.specs.Engine.Lines.{rowStart}
+use Rattle.plan.proofs.PlanLaws.{partLayers-enabled, length-partLayers-le, planned-layer, made-floats}
 use Rattle.scanline.proofs.DrawLaws.{active-room, list-is}
 
 module _ (s : Scene) (lent : Lent s) (t : Step) (number : t .number < 8) (m : OfLayer s t) where
@@ -38,23 +40,26 @@ module _ (s : Scene) (lent : Lent s) (t : Step) (number : t .number < 8) (m : Of
         count = rw (list-is s t m) (ap (λ (e : ListEnd). e .count) (m .end (rw (m .layer) at g)));
       }
 
-  layer-pictured : layerOf (s .words) (t .number) .on ≡ true → Pictured (s .pictures) t
-  unfolding pictureStart picturesLen pictureLenAt pictureLen
+  layer-room : (k : Bool) → layerOf (s .words) (t .number) .on ≡ true → t .layer .graphics ≡ false → t .layer .floats ≡ k
+      → pictureEnd t ≤ picturesLen k (s .words)
+  layer-room k on g f =
+      rw (m .start, m .layer)
+      (own-room k (s .words) (t .number) number on (rw (m .layer) at g) (rw (m .layer) at f))
+
+  layer-pictured : layerOf (s .words) (t .number) .on ≡ true → Pictured (s .pictures) (s .floats) t
   layer-pictured on =
       record {
         wide = rw (m .layer) (omega (arith, m .wide));
-        room = λ g.
-            let f : layerOf (s .words) (t .number) .graphics ≡ false = rw (m .layer) at g in
-            let len : pictureLenAt (s .words) (t .number) ≡ 4 * (t .layer .width * t .layer .height) = rw
-            (m .layer, on, f) in
-            omega (arith, sum-room 8 (t .number) (pictureLenAt (s .words)) number, m .start, lent .pictures);
+        bytes = λ g f. rw (lent .pictures) (layer-room false on g f);
+        flows = λ g f. rw (lent .floats) (layer-room true on g f);
       }
 
-  layer-fit : layerOf (s .words) (t .number) .on ≡ true → Fit (s .tables) (s .pictures) (4 * widthOf (s .words)) t
+  layer-fit : layerOf (s .words) (t .number) .on ≡ true
+      → Fit (s .tables) (s .pictures) (s .floats) (4 * widthOf (s .words)) t
   layer-fit on = record { on = omega (arith, m .left, m .wide); banked = layer-banked; pictured = layer-pictured on }
 
 pub part-ready : (s : Scene) (part : Part) (p : Plan) → Lent s → OfLayers s (partLayers (s .words) part) p
-    → AllFit (s .tables) (s .pictures) (4 * widthOf (s .words)) p
+    → AllFit (s .tables) (s .pictures) (s .floats) (4 * widthOf (s .words)) p
 part-ready s part p lent q =
     record {
       few = omega (arith, q .count, length-partLayers-le (s .words) part);
@@ -68,11 +73,27 @@ part-ready s part p lent q =
           q .drawn j lt (rw (q .made j lt .layer) at g);
     }
 
--- line y of a picture that fits lies among the pictures
-pub row-fits : (pictures : List ℕ) (t : Step) (y : ℕ) → Pictured pictures t → OnRow t y → t .layer .graphics ≡ false
-    → rowStart t y + 4 * t .wide ≤ length pictures
-row-fits pictures t y k r g =
+-- line y of a picture that fits lies in the picture's buffer
+pub row-fits : (t : Step) (y long : ℕ) → t .wide ≤ t .layer .width → OnRow t y → pictureEnd t ≤ long
+    → rowStart t y + 4 * t .wide ≤ long
+row-fits t y long wide r room =
     let below : (y - t .layer .y) * t .layer .width + t .layer .width ≤ t .layer .height * t .layer .width =
     row-room _ _ _ (omega (arith, r .top, r .bottom)) in
     let turned = mul-comm (t .layer .height) (t .layer .width) in
-    omega (arith, k .wide, k .room g)
+    omega arith
+
+-- and what a row of it is made from is there
+pub step-makable : {tables pictures : List ℕ} {floats : List Float} (bytes : ℕ) (t : Step) (y : ℕ)
+    → Fit tables pictures floats bytes t → OnRow t y → isMade (t .layer) ≡ true → Makable tables floats t y
+step-makable bytes t y k r made =
+    record {
+      made = made;
+      banked = k .banked;
+      flows = λ g. row-fits t y _ (k .pictured .wide) r (k .pictured .flows g (rw g at made));
+    }
+
+-- a plan whose first step is a float layer is a drawn one
+pub first-drawn : {tables pictures : List ℕ} {floats : List Float} {bytes : ℕ} {p : Plan}
+    → AllFit tables pictures floats bytes p → 0 < p .count → getD (p .steps) 0 blankStep .layer .floats ≡ true
+    → p .drawn ≡ true
+first-drawn {p = p} k h f = k .drawn 0 h (made-floats (getD (p .steps) 0 blankStep .layer) f)

@@ -8,6 +8,7 @@ use native.Mathlib.Numerals.{add-one}
 use native.Mathlib.Omega.{arith}
 use borrow.Author.Tests.{lt-ltb}
 use lib.Dec.{eqb}
+use lib.Ieee.{Float}
 use lib.ListN.{length, getD, take, drop, take-append-drop, drop-of-length-le}
 use lib.Seq.{take-at, drop-cons}
 use Rattle.lists.specs.Choice.{pick, both}
@@ -20,16 +21,18 @@ use Rattle.mix.specs.Blend.{blendOf}
 use Rattle.words.specs.declared.fields.Layer.{Layer}
 use Rattle.words.specs.Fields.{widthOf, layerOf}
 use Rattle.span.specs.Span.{overByte}
+use Rattle.river.specs.River.{bytesFrom}
+use Rattle.river.proofs.RiverLaws.{bytes-part}
 use Rattle.plan.specs.declared.Step.{Step}
 use Rattle.words.specs.Order.{orderOf, within, bandLayers}
 use Rattle.frames.specs.Scene.{Scene}
 use Rattle.frames.proofs.PixelLaws.{Covered, over-outside, over-inside}
-use Rattle.frames.specs.Pixel.{pictureAt, ownAt, fadedOf, alphaAt, overAt}
+use Rattle.frames.specs.Pixel.{bufferOf, pictureAt, ownAt, fadedOf, alphaAt, overAt}
 use Rattle.frames.specs.Band.{bandBy}
 use Rattle.plan.specs.declared.Part.{Part}
 use Rattle.plan.specs.Engine.Plan.{leftEnd, wideOf, reaches, taken, partLayers, OfLayer}
 use Rattle.scanline.specs.Engine.Lines.{OnRow, rowStart, drawnRow, lineByte, lineTo, lineFrom, bandLine, Shows}
-use Rattle.scanline.specs.Engine.Lines.{Draws, OfLine}
+use Rattle.scanline.specs.Engine.Lines.{Draws, Flows, OfLine}
 use Rattle.plan.proofs.PartLaws.{part-is}
 use Rattle.scanline.proofs.DrawLaws.{row-drawn}
 use Rattle.frames.proofs.BandLaws.{band-through}
@@ -127,29 +130,54 @@ module _ (s : Scene) (y n left wide : ℕ) (src : List ℕ)
 module _ (s : Scene) (y : ℕ) (t : Step) (m : OfLayer s t) where
   -- ---- the run that the code blends is the layer's row
 
-  -- of a frame layer: a part of its picture, with the row's start in a variable
-  pub picture-own : (pictures : List ℕ) (from : ℕ) → Shows pictures s → from ≡ rowStart t y → t .layer .graphics ≡ false
-      → (u c : ℕ) → u < t .wide → c < 4
-      → getD (take (from + 4 * t .wide - from) (drop from pictures)) (4 * u + c) 0
-      ≡ ownAt s (t .number) (y - t .layer .y) u c
+  -- of a frame layer: so many bytes of its picture's buffer from the row's start on
+  frame-own : t .layer .graphics ≡ false → (u c : ℕ)
+      → getD (bufferOf s (t .number)) (rowStart t y + (4 * u + c)) 0 ≡ ownAt s (t .number) (y - t .layer .y) u c
   unfolding ownAt pictureAt
-  picture-own pictures from same e g u c h hc =
+  frame-own g u c =
       let f : layerOf (s .words) (t .number) .graphics ≡ false = rw (m .layer) at g in
       let q : rowStart t y + (4 * u + c) ≡ t .start +
       (4 * ((y - t .layer .y) * t .layer .width + u) + c) = omega arith in
-      rw (part-is pictures from (4 * t .wide), ← same, e)
-      (getD-part (s .pictures) _ (4 * t .wide) (4 * u + c) (omega arith)
-      ∙ ap (λ (i : ℕ). getD (s .pictures) i 0) q ∙ rw (f, ← (m .layer), m .start))
+      ap (λ (i : ℕ). getD (bufferOf s (t .number)) i 0) q ∙ rw (f, ← (m .layer), m .start)
 
-  -- of a graphics layer: the row that was drawn, at the front of its room
-  pub graphics-own : (tables : List ℕ) (n pixels : ℕ) (row rest : List ℕ) → Draws tables s → t .layer .graphics ≡ true
-      → row ≡ drawnRow tables t (y - t .layer .y) pixels → pixels ≡ t .wide → length row ≡ n
+  -- among the pictures, with the row's start in a variable
+  pub picture-own : (pictures : List ℕ) (from : ℕ) → Shows pictures s → from ≡ rowStart t y → t .layer .graphics ≡ false
+      → t .layer .floats ≡ false → (u c : ℕ) → u < t .wide → c < 4
+      → getD (take (from + 4 * t .wide - from) (drop from pictures)) (4 * u + c) 0
+      ≡ ownAt s (t .number) (y - t .layer .y) u c
+  unfolding bufferOf
+  picture-own pictures from same e g k u c h hc =
+      let f : layerOf (s .words) (t .number) .floats ≡ false = rw (m .layer) at k in
+      rw (part-is pictures from (4 * t .wide), ← same, e)
+      (getD-part (s .pictures) _ (4 * t .wide) (4 * u + c) (omega arith) ∙ rw f at (frame-own g u c))
+
+  -- among the floats, as bytes
+  pub float-own : (floats : List Float) (from : ℕ) (row : List ℕ) → Flows floats s → from ≡ rowStart t y
+      → t .layer .graphics ≡ false → t .layer .floats ≡ true
+      → row ≡ bytesFrom (take (from + 4 * t .wide - from) (drop from floats))
+      → (u c : ℕ) → u < t .wide → c < 4 → getD row (4 * u + c) 0 ≡ ownAt s (t .number) (y - t .layer .y) u c
+  unfolding bufferOf
+  float-own floats from row same e g k r u c h hc =
+      let f : layerOf (s .words) (t .number) .floats ≡ true = rw (m .layer) at k in
+      let n : ℕ = rowStart t y + 4 * t .wide - rowStart t y in
+      rw (r, ← same, e, bytes-part (s .floats) (rowStart t y) n, part-is (bytesFrom (s .floats)) (rowStart t y) (4 * t .wide))
+      (getD-part (bytesFrom (s .floats)) _ (4 * t .wide) (4 * u + c) (omega arith) ∙ rw f at (frame-own g u c))
+
+  -- of a graphics layer: the row that was drawn
+  pub graphics-own : (tables : List ℕ) (pixels : ℕ) (row : List ℕ) → Draws tables s → t .layer .graphics ≡ true
+      → row ≡ drawnRow tables t (y - t .layer .y) pixels → pixels ≡ t .wide
+      → (u c : ℕ) → u < t .wide → c < 4 → getD row (4 * u + c) 0 ≡ ownAt s (t .number) (y - t .layer .y) u c
+  unfolding ownAt
+  graphics-own tables pixels row same g d q u c h hc =
+      let f : layerOf (s .words) (t .number) .graphics ≡ true = rw (m .layer) at g in
+      rw f (row-drawn s t m tables _ pixels row same d u c (omega arith) hc)
+
+  -- such a row at the front of its room
+  pub front-own : (n : ℕ) (row rest : List ℕ) → length row ≡ n
+      → ((u c : ℕ) → u < t .wide → c < 4 → getD row (4 * u + c) 0 ≡ ownAt s (t .number) (y - t .layer .y) u c)
       → (u c : ℕ) → u < t .wide → c < 4
       → getD (take n (row ++ rest)) (4 * u + c) 0 ≡ ownAt s (t .number) (y - t .layer .y) u c
-  unfolding ownAt
-  graphics-own tables n pixels row rest same g d q e u c h hc =
-      let f : layerOf (s .words) (t .number) .graphics ≡ true = rw (m .layer) at g in
-      rw (take-at row rest n e, f) (row-drawn s t m tables _ pixels row same d u c (omega arith) hc)
+  front-own n row rest e own u c h hc = rw (take-at row rest n e) (own u c h hc)
 
   -- ---- such a run over its part of the line is the layer over the line
 

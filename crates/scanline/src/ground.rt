@@ -10,12 +10,15 @@ ghost use Rattle.lists.specs.Choice.{both};
 ghost use Rattle.lists.specs.Tab.{each};
 ghost use Rattle.mix.specs.Pixel.{pixelLen};
 ghost use Rattle.span.specs.Span.{overByte};
-ghost use Rattle.scanline.specs.Engine.Lines.{Pictured, OnRow, rowStart, groundByte, wholeLine, Shows, Over};
-ghost use Rattle.scanline.specs.Engine.Lines.{OverTo};
-use crate::line::row_start;
+ghost use Rattle.frames.specs.Pixel.{spans};
+ghost use Rattle.scanline.specs.Engine.Lines.{Pictured, OnRow, RowFlows, rowStart, groundByte, wholeLine};
+ghost use Rattle.scanline.specs.Engine.Lines.{Shows, Flows, Pours, Over, OverTo};
+use crate::row::float_row;
+use crate::row::row_start;
 use mix::PIXEL_LEN;
 use plan::Step;
 use words::fields::Ground;
+use words::fields::Layer;
 
 // The ground of a run.
 pub fn lay_ground(out: &mut [u8], fresh: bool, ground: Ground)
@@ -43,13 +46,14 @@ fn over_ground(out: &mut [u8], run: &[u8], global: bool, alpha: u8, ground: Grou
 
 // Line y of a frame layer that takes up the whole line, over the background.
 fn lay_picture(line: &mut [u8], pictures: &[u8], ground: Ground, step: Step, y: usize)
-    requires { ⌜ OnRow step y × (pixelLen * step .wide ≡ length (now line)) × (step .layer .graphics ≡ false) ⌝ }
+    requires { ⌜ OnRow step y × (pixelLen * step .wide ≡ length (now line)) × (step .layer .graphics ≡ false)
+        × (step .layer .floats ≡ false) ⌝ }
     requires { ⌜ rowStart step y + pixelLen * step .wide ≤ length (now pictures) ⌝ }
     ensures { λ _. ⌜ Over (Shows (now (pictures .entry))) step y
         (each (groundByte ground true) (now (line .entry))) (now (line .exit)) ⌝ }
 {
     let wide = PIXEL_LEN * step.wide;
-    let from = row_start(pictures, step, y);
+    let from = row_start(step, y);
     over_ground(
         line,
         &pictures[from..from + wide],
@@ -57,6 +61,53 @@ fn lay_picture(line: &mut [u8], pictures: &[u8], ground: Ground, step: Step, y: 
         step.alpha,
         ground,
     );
+}
+
+// The same of a float layer, with room for its row.
+fn lay_floats(line: &mut [u8], row: &mut [u8], floats: &[f32], ground: Ground, step: Step, y: usize)
+    requires { ⌜ OnRow step y × (pixelLen * step .wide ≡ length (now line)) × (step .layer .graphics ≡ false)
+        × (step .layer .floats ≡ true) ⌝ }
+    requires { ⌜ RowFlows (now floats) step y × (length (now line) ≤ length (now row)) ⌝ }
+    ensures { λ _. ⌜ Over (Flows (now (floats .entry))) step y
+        (each (groundByte ground true) (now (line .entry))) (now (line .exit)) ⌝ }
+{
+    let wide = PIXEL_LEN * step.wide;
+    float_row(&mut row[..wide], floats, step, y);
+    over_ground(line, &row[..wide], step.layer.global, step.alpha, ground);
+}
+
+// Either.
+fn lay_layer(
+    line: &mut [u8],
+    row: &mut [u8],
+    pictures: &[u8],
+    floats: &[f32],
+    ground: Ground,
+    step: Step,
+    y: usize,
+)
+    requires { ⌜ OnRow step y × (pixelLen * step .wide ≡ length (now line)) × (step .layer .graphics ≡ false)
+        × Pictured (now pictures) (now floats) step ⌝ }
+    requires { ⌜ (step .layer .floats ≡ true → length (now line) ≤ length (now row)) ⌝ }
+    ensures { λ _. ⌜ Over (Pours (now (pictures .entry)) (now (floats .entry))) step y
+        (each (groundByte ground true) (now (line .entry))) (now (line .exit)) ⌝ }
+{
+    if step.layer.floats {
+        lay_floats(line, row, floats, ground, step, y);
+        return;
+    }
+    lay_picture(line, pictures, ground, step, y);
+}
+
+// Whether a layer reaches line y.
+fn is_on_row(layer: Layer, y: usize) -> bool
+    ensures { λ r. ⌜ r ≡ spans (layer .y) (layer .height) y ⌝ }
+{
+    let top = layer.y as usize;
+    if y < top {
+        return false;
+    }
+    y < top + (layer.height as usize)
 }
 
 // Whether a layer is a picture that takes up the whole of line y, which has `pixels` pixels.
@@ -69,11 +120,7 @@ fn is_whole_line(step: Step, pixels: usize, y: usize) -> bool
     if step.wide != pixels {
         return false;
     }
-    let top = step.layer.y as usize;
-    if y < top {
-        return false;
-    }
-    y < top + (step.layer.height as usize)
+    is_on_row(step.layer, y)
 }
 
 // Whether the first of `count` layers is laid together with the ground of line y.
@@ -93,19 +140,22 @@ fn is_laid_first(fresh: bool, count: usize, step: Step, pixels: usize, y: usize)
 // of a fresh frame. Answers how many layers were laid, 0 or 1.
 pub fn lay_first(
     line: &mut [u8],
+    row: &mut [u8],
     pictures: &[u8],
+    floats: &[f32],
     fresh: bool,
     ground: Ground,
     step: Step,
     count: usize,
     y: usize,
 ) -> usize
-    requires { ⌜ (length (now line) % pixelLen ≡ 0) × (0 < count → Pictured (now pictures) step) ⌝ }
-    ensures { λ r. ⌜ OverTo (Shows (now (pictures .entry))) step count r y
+    requires { ⌜ (length (now line) % pixelLen ≡ 0) × (0 < count → Pictured (now pictures) (now floats) step)
+        × (0 < count → step .layer .floats ≡ true → length (now line) ≤ length (now row)) ⌝ }
+    ensures { λ r. ⌜ OverTo (Pours (now (pictures .entry)) (now (floats .entry))) step count r y
         (each (groundByte ground fresh) (now (line .entry))) (now (line .exit)) ⌝ }
 {
     if is_laid_first(fresh, count, step, line.len() / PIXEL_LEN, y) {
-        lay_picture(line, pictures, ground, step, y);
+        lay_layer(line, row, pictures, floats, ground, step, y);
         return 1;
     }
     lay_ground(line, fresh, ground);

@@ -1,3 +1,4 @@
 // One line of a frame: its ground, then its layers. For `paint` alone.
 pub mod ground;
 pub mod line;
+mod row;

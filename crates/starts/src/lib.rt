@@ -2,7 +2,7 @@
 ghost use mathlib.Core.Path.{_≡_};
 ghost use Prim.Native.Nat.{_<_};
 ghost use Rattle.lists.specs.Runs.{firstOf};
-ghost use Rattle.words.specs.Check.{reservedAt, screenOf, placeOf, placeAt};
+ghost use Rattle.words.specs.Check.{reservedAt, kindOf, kindAt, screenOf, placeOf, placeAt};
 ghost use Rattle.words.specs.Check.{clashOf, clashAt, clashBelow, checkOf};
 use answers::DONE;
 use answers::EMPTY_LAYER;
@@ -22,49 +22,49 @@ pub const RESERVED: [u32; 52] = [
     0xf000_f000,
     0xff00_0000,
     0x0000_0000,
-    0xffff_f8fc,
+    0xffff_f8f8,
     0x7fff_ff00,
     0xf000_f000,
     0xf000_f000,
     0x0000_0000,
     0xff00_0000,
-    0xffff_f8fc,
+    0xffff_f8f8,
     0x7fff_ff00,
     0xf000_f000,
     0xf000_f000,
     0x0000_0000,
     0xff00_0000,
-    0xffff_f8fc,
+    0xffff_f8f8,
     0x7fff_ff00,
     0xf000_f000,
     0xf000_f000,
     0x0000_0000,
     0xff00_0000,
-    0xffff_f8fc,
+    0xffff_f8f8,
     0x7fff_ff00,
     0xf000_f000,
     0xf000_f000,
     0x0000_0000,
     0xff00_0000,
-    0xffff_f8fc,
+    0xffff_f8f8,
     0x7fff_ff00,
     0xf000_f000,
     0xf000_f000,
     0x0000_0000,
     0xff00_0000,
-    0xffff_f8fc,
+    0xffff_f8f8,
     0x7fff_ff00,
     0xf000_f000,
     0xf000_f000,
     0x0000_0000,
     0xff00_0000,
-    0xffff_f8fc,
+    0xffff_f8f8,
     0x7fff_ff00,
     0xf000_f000,
     0xf000_f000,
     0x0000_0000,
     0xff00_0000,
-    0xffff_f8fc,
+    0xffff_f8f8,
     0x7fff_ff00,
     0xf000_f000,
     0xf000_f000,
@@ -93,6 +93,43 @@ fn first_reserved(w: &[u32; 52]) -> u8
             return refusal;
         }
         i += 1;
+    }
+    DONE
+}
+
+// What the masks cannot say: a layer is not both a graphics and a float layer, and the latter only where `floats`.
+fn kind_of(floats: bool, l: Layer) -> u8
+    ensures { λ r. ⌜ r ≡ kindOf floats l ⌝ }
+{
+    if !l.floats {
+        return DONE;
+    }
+    if l.graphics {
+        return RESERVED_BIT;
+    }
+    if floats {
+        return DONE;
+    }
+    RESERVED_BIT
+}
+
+fn kind(floats: bool, w: &[u32; 52], n: usize) -> u8
+    requires { ⌜ n < 8 ⌝ }
+    ensures { λ r. ⌜ r ≡ kindAt floats (now (w .entry)) n ⌝ }
+{
+    kind_of(floats, layer_of(w, n))
+}
+
+fn first_kind(floats: bool, w: &[u32; 52]) -> u8
+    ensures { λ r. ⌜ r ≡ firstOf 8 (kindAt floats (now (w .entry))) ⌝ }
+{
+    let mut n: usize = 0;
+    while n < 8 {
+        let refusal = kind(floats, w, n);
+        if refusal != DONE {
+            return refusal;
+        }
+        n += 1;
     }
     DONE
 }
@@ -206,12 +243,13 @@ fn first_clash(w: &[u32; 52]) -> u8
     DONE
 }
 
-// The first refusal that the words earn, or 0.
-pub fn refusal_of(w: &[u32; 52]) -> u8
-    ensures { λ r. ⌜ r ≡ checkOf (now (w .entry)) ⌝ }
+// The first refusal that the words earn, or 0, where float layers are let in or not.
+pub fn refusal_of(floats: bool, w: &[u32; 52]) -> u8
+    ensures { λ r. ⌜ r ≡ checkOf floats (now (w .entry)) ⌝ }
 {
     let places = first_place(w);
     let clashes = first_clash(w);
     let layers = or_else(places, clashes);
-    or_else(first_reserved(w), or_else(screen(w), layers))
+    let sized = or_else(screen(w), layers);
+    or_else(first_reserved(w), or_else(first_kind(floats, w), sized))
 }

@@ -17,7 +17,7 @@ use Rattle.lists.proofs.First.{first-each}
 use Rattle.words.specs.declared.fields.Layer.{Layer}
 use Rattle.words.specs.Fields.{lowOf, highOf, decode, layerOf}
 use Rattle.words.specs.Check.{reservedBits, Plain}
-use Rattle.words.specs.Change.{offWord, depthWord, pairWord, withOff, withDepth, withPair}
+use Rattle.words.specs.Change.{offWord, bytesWord, depthWord, pairWord, withOff, withBytes, withDepth, withPair}
 
 -- ---- no reserved bit comes up
 
@@ -37,6 +37,9 @@ field-plain k b v u M low high m e =
 
 off-plain : (v M : ℕ) → M / 1 % 2 ≡ 0 → bitAnd v M ≡ 0 → bitAnd (offWord v) M ≡ 0
 off-plain v M = field-plain 0 1 v (offWord v) M (omega arith) (omega arith)
+
+bytes-plain : (v M : ℕ) → M / 4 % 2 ≡ 0 → bitAnd v M ≡ 0 → bitAnd (bytesWord v) M ≡ 0
+bytes-plain v M = field-plain 2 1 v (bytesWord v) M (omega arith) (omega arith)
 
 depth-plain : (v d M : ℕ) → d < 8 → M / 256 % 8 ≡ 0 → bitAnd v M ≡ 0 → bitAnd (depthWord v d) M ≡ 0
 depth-plain v d M h = field-plain 8 3 v (depthWord v d) M (omega arith) (omega arith)
@@ -71,6 +74,10 @@ mask-free j k b = first-each 8 (λ n. getD reservedBits (j + 6 * n) 0 / 2 ^ k % 
 pub on-free : (n : ℕ) → n < 8 → getD reservedBits (4 + 6 * n) 0 / 1 % 2 ≡ 0
 unfolding firstOf
 on-free = mask-free 4 0 1 refl
+
+floats-free : (n : ℕ) → n < 8 → getD reservedBits (4 + 6 * n) 0 / 4 % 2 ≡ 0
+unfolding firstOf
+floats-free = mask-free 4 2 1 refl
 
 pub depth-free : (n : ℕ) → n < 8 → getD reservedBits (4 + 6 * n) 0 / 256 % 8 ≡ 0
 unfolding firstOf
@@ -147,6 +154,11 @@ module _ (w : List ℕ) (n : ℕ) (h : n < 8) (long : length w ≡ 52) where
   kept-off =
       kept-set 4 _ (omega arith) (omega arith) (off-plain (getD w (4 + 6 * n) 0) _ (on-free n h)) (λ s. omega arith)
 
+  pub kept-bytes : Kept n w (withBytes w n)
+  unfolding withBytes
+  kept-bytes =
+      kept-set 4 _ (omega arith) (omega arith) (bytes-plain (getD w (4 + 6 * n) 0) _ (floats-free n h)) (λ s. omega arith)
+
   pub kept-depth : (d : ℕ) → d < 8 → Kept n w (withDepth w n d)
   unfolding withDepth
   kept-depth d hd =
@@ -162,11 +174,12 @@ module _ (w : List ℕ) (n : ℕ) (h : n < 8) (long : length w ≡ 52) where
 -- ---- the layer itself
 
 -- with other values for what is replaced here
-abbrev layerAs : Layer → Bool → ℕ → ℕ → ℕ → ℕ → ℕ → Layer
-layerAs l on depth x y width height =
+abbrev layerAs : Layer → Bool → Bool → ℕ → ℕ → ℕ → ℕ → ℕ → Layer
+layerAs l on floats depth x y width height =
     record {
       on = on;
       graphics = l .graphics;
+      floats = floats;
       depth = depth;
       global = l .global;
       value = l .value;
@@ -180,20 +193,26 @@ layerAs l on depth x y width height =
     }
 
 abbrev pub switchedOff : Layer → Layer
-switchedOff l = layerAs l false (l .depth) (l .x) (l .y) (l .width) (l .height)
+switchedOff l = layerAs l false (l .floats) (l .depth) (l .x) (l .y) (l .width) (l .height)
 
 abbrev pub atDepth : Layer → ℕ → Layer
-atDepth l d = layerAs l (l .on) d (l .x) (l .y) (l .width) (l .height)
+atDepth l d = layerAs l (l .on) (l .floats) d (l .x) (l .y) (l .width) (l .height)
 
 abbrev pub lyingAt : Layer → ℕ → ℕ → ℕ → ℕ → Layer
-lyingAt l x y a b = layerAs l (l .on) (l .depth) x y a b
+lyingAt l x y a b = layerAs l (l .on) (l .floats) (l .depth) x y a b
 
--- the first word's fields with another depth, and with bit 0 cleared
+abbrev pub ofBytes : Layer → Layer
+ofBytes l = layerAs l (l .on) false (l .depth) (l .x) (l .y) (l .width) (l .height)
+
+-- the first word's fields with another depth, and with bit 0 or bit 2 cleared
 depth-on : (v d : ℕ) → depthWord v d % 2 ≡ v % 2
 depth-on v d = omega arith
 
 depth-graphics : (v d : ℕ) → depthWord v d / 2 % 2 ≡ v / 2 % 2
 depth-graphics v d = omega arith
+
+depth-floats : (v d : ℕ) → depthWord v d / 4 % 2 ≡ v / 4 % 2
+depth-floats v d = omega arith
 
 depth-depth : (v d : ℕ) → d < 8 → depthWord v d / 256 % 8 ≡ d
 depth-depth v d h = omega arith
@@ -204,11 +223,32 @@ off-on v = omega arith
 off-graphics : (v : ℕ) → offWord v / 2 % 2 ≡ v / 2 % 2
 off-graphics v = let q : v / 2 * 2 / 2 ≡ v / 2 = omega arith in rw q
 
+off-floats : (v : ℕ) → offWord v / 4 % 2 ≡ v / 4 % 2
+off-floats v =
+    let k : v / 4 * 2 ≤ v / 2 = omega arith in
+    let m : v / 2 < v / 4 * 2 + 2 = omega arith in
+    let q : v / 2 * 2 / 4 ≡ v / 4 = omega arith in rw q
+
 off-depth : (v : ℕ) → offWord v / 256 % 8 ≡ v / 256 % 8
 off-depth v =
     let k : v / 256 * 128 ≤ v / 2 = omega arith in
     let m : v / 2 < v / 256 * 128 + 128 = omega arith in
     let q : v / 2 * 2 / 256 ≡ v / 256 = omega arith in rw q
+
+bytes-on : (v : ℕ) → bytesWord v % 2 ≡ v % 2
+bytes-on v = omega arith
+
+bytes-graphics : (v : ℕ) → bytesWord v / 2 % 2 ≡ v / 2 % 2
+bytes-graphics v = omega arith
+
+bytes-floats : (v : ℕ) → bytesWord v / 4 % 2 ≡ 0
+bytes-floats v = omega arith
+
+bytes-depth : (v : ℕ) → bytesWord v / 256 % 8 ≡ v / 256 % 8
+bytes-depth v =
+    let k : v / 256 * 32 ≤ v / 8 = omega arith in
+    let m : v / 8 < v / 256 * 32 + 32 = omega arith in
+    let q : (v / 8 * 8 + v % 4) / 256 ≡ v / 256 = omega arith in rw q
 
 pair-low : (v a b : ℕ) → a < 4096 → b < 4096 → lowOf (pairWord v a b) ≡ a
 pair-low v a b p q = omega arith
@@ -238,14 +278,34 @@ module _ (w : List ℕ) (n : ℕ) (h : n < 8) (long : length w ≡ 52) where
   unfolding withOff layerOf
   withOff-same =
       layer-first _
-      ∙ rw (off-on (getD w (4 + 6 * n) 0), off-graphics (getD w (4 + 6 * n) 0), off-depth (getD w (4 + 6 * n) 0))
+      ∙ rw (
+        off-on (getD w (4 + 6 * n) 0),
+        off-graphics (getD w (4 + 6 * n) 0),
+        off-floats (getD w (4 + 6 * n) 0),
+        off-depth (getD w (4 + 6 * n) 0),
+      )
+
+  pub withBytes-same : layerOf (withBytes w n) n ≡ ofBytes (layerOf w n)
+  unfolding withBytes layerOf
+  withBytes-same =
+      layer-first _
+      ∙ rw (
+        bytes-on (getD w (4 + 6 * n) 0),
+        bytes-graphics (getD w (4 + 6 * n) 0),
+        bytes-floats (getD w (4 + 6 * n) 0),
+        bytes-depth (getD w (4 + 6 * n) 0),
+      )
 
   own : (d : ℕ)
       → atDepth (layerOf (set w (4 + 6 * n) (depthWord (getD w (4 + 6 * n) 0) d)) n) 0 ≡ atDepth (layerOf w n) 0
   unfolding layerOf
   own d =
       ap (λ (l : Layer). atDepth l 0) (layer-first (depthWord (getD w (4 + 6 * n) 0) d))
-      ∙ rw (depth-on (getD w (4 + 6 * n) 0) d, depth-graphics (getD w (4 + 6 * n) 0) d)
+      ∙ rw (
+        depth-on (getD w (4 + 6 * n) 0) d,
+        depth-graphics (getD w (4 + 6 * n) 0) d,
+        depth-floats (getD w (4 + 6 * n) 0) d,
+      )
 
   pub withDepth-same : (d : ℕ) → d < 8 → layerOf (withDepth w n d) n ≡ atDepth (layerOf w n) d
   unfolding withDepth layerOf
@@ -254,6 +314,7 @@ module _ (w : List ℕ) (n : ℕ) (h : n < 8) (long : length w ≡ 52) where
       ∙ rw (
         depth-on (getD w (4 + 6 * n) 0) d,
         depth-graphics (getD w (4 + 6 * n) 0) d,
+        depth-floats (getD w (4 + 6 * n) 0) d,
         depth-depth (getD w (4 + 6 * n) 0) d hd,
       )
 

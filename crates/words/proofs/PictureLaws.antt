@@ -1,20 +1,18 @@
--- Where the pictures stand: their lengths stay small, and a start is the sum so far.
--- Assumes nothing.
-use mathlib.Core.Path.{_≡_, refl, sym, ap, ap₂, _∙_}
-use mathlib.Core.Bool.{not}
+-- Where the pictures stand: their lengths stay small, and each lies in its own buffer. Assumes nothing.
+use mathlib.Core.Path.{_≡_, refl, sym, _∙_}
+use mathlib.Core.Bool.{Bool, true, false, not, true≢false}
 use mathlib.Core.List.{List}
 use Prim.Native.Nat.{ℕ, _+_, _*_, _≤_, _<_}
 use native.Mathlib.Nat.{mul-le-mul}
 use native.Mathlib.Omega.{arith}
-use lib.ListN.{set, replicate}
-use Rattle.lists.specs.Choice.{both}
+use Rattle.lists.specs.Choice.{pick, both, agree}
 use Rattle.lists.specs.Runs.{sumOf}
-use Rattle.lists.proofs.Choice.{pick-keeps}
-use Rattle.lists.proofs.Sum.{sum-none, sum-step, sum-le}
-use Rattle.lists.proofs.Upto.{Upto, upto-none, upto-set, upto-done}
-use Rattle.words.specs.declared.pictures.Pictures.{Pictures}
+use Rattle.lists.proofs.Choice.{pick-keeps, both-none}
+use Rattle.lists.proofs.Sum.{sum-le, sum-room, sum-cong, sum-zero}
+use Rattle.words.specs.declared.fields.Layer.{Layer}
 use Rattle.words.specs.Fields.{layerOf}
-use Rattle.words.specs.Pictures.{pictureLen, pictureLenAt, pictureStart, picturesLen, picturesOf}
+use Rattle.words.specs.Check.{LetIn}
+use Rattle.words.specs.Pictures.{pictureLen, pictureLenAt, pictureStart, picturesLen, startAt}
 
 -- a picture is at most 4095 by 4095 pixels
 wide : (w : List ℕ) (n : ℕ) → layerOf w n .width ≤ 4095
@@ -25,46 +23,52 @@ tall : (w : List ℕ) (n : ℕ) → layerOf w n .height ≤ 4095
 unfolding layerOf
 tall w n = omega arith
 
-pub pictureLenAt-le : (w : List ℕ) (n : ℕ) → pictureLenAt w n ≤ 67076100
+pub pictureLenAt-le : (k : Bool) (w : List ℕ) (n : ℕ) → pictureLenAt k w n ≤ 67076100
 unfolding pictureLenAt pictureLen
-pictureLenAt-le w n =
-    pick-keeps (λ (z : ℕ). z ≤ 67076100) (both (layerOf w n .on) (not (layerOf w n .graphics)))
-    (4 * (layerOf w n .width * layerOf w n .height)) 0
+pictureLenAt-le k w n =
+    let l = layerOf w n in
+    pick-keeps (λ (z : ℕ). z ≤ 67076100) (both (l .on) (both (not (l .graphics)) (agree k (l .floats))))
+    (4 * (l .width * l .height)) 0
     (λ t. omega (arith, mul-le-mul (wide w n) (tall w n)))
     (λ t. omega arith)
 
-pub pictureStart-le : (w : List ℕ) (n : ℕ) → n ≤ 8 → pictureStart w n ≤ 536608800
+pub pictureStart-le : (k : Bool) (w : List ℕ) (n : ℕ) → n ≤ 8 → pictureStart k w n ≤ 536608800
 unfolding pictureStart
-pictureStart-le w n h =
-    let r : sumOf n (pictureLenAt w) ≤ n * 67076100 = sum-le n 67076100 (pictureLenAt w) (λ i _. pictureLenAt-le w i) in
+pictureStart-le k w n h =
+    let r : sumOf n (pictureLenAt k w) ≤ n * 67076100 = sum-le n 67076100 (pictureLenAt k w)
+    (λ i _. pictureLenAt-le k w i) in
     omega arith
 
--- ---- the loop
+-- ---- a layer's picture in its own buffer
 
--- the starts below n are written, and the sum so far is the next
-pub record StartsTo (w starts : List ℕ) (total n : ℕ) : Type 0 where
-  pub written : Upto starts (replicate 8 0) (pictureStart w) n
-  pub sum : total ≡ pictureStart w n
+pub agree-self : (k : Bool) → agree k k ≡ true
+agree-self true = refl
+agree-self false = refl
 
-pub starts-none : (w : List ℕ) → StartsTo w (replicate 8 0) 0 0
-unfolding pictureStart
-starts-none w = record { written = upto-none _ _; sum = sym (sum-none (pictureLenAt w)) }
+pub own-len : (w : List ℕ) (n : ℕ) → layerOf w n .on ≡ true → layerOf w n .graphics ≡ false
+    → pictureLenAt (layerOf w n .floats) w n ≡ 4 * (layerOf w n .width * layerOf w n .height)
+unfolding pictureLenAt pictureLen
+own-len w n o g = rw (o, g, agree-self (layerOf w n .floats))
 
-pub starts-next : (w starts : List ℕ) (total n a : ℕ) → n < 8 → StartsTo w starts total n → a ≡ pictureLenAt w n
-    → StartsTo w (set starts n total) (total + a) (n + 1)
-unfolding pictureStart
-starts-next w starts total n a h s e =
-    record {
-      written = upto-set n total (s .written) refl refl h (s .sum);
-      sum = ap₂ (λ (x y : ℕ). x + y) (s .sum) e ∙ sym (sum-step n (pictureLenAt w));
-    }
+-- in the other it has none
+pub other-len : (k : Bool) (l : Layer) → agree k (l .floats) ≡ false → pictureLen k l ≡ 0
+unfolding pictureLen
+other-len k l e = rw (e, both-none (not (l .graphics)), both-none (l .on))
 
-abbrev pictures : List ℕ → ℕ → Pictures
-pictures l k = record { starts = l; total = k }
+-- it lies in its own
+pub own-room : (k : Bool) (w : List ℕ) (n : ℕ) → n < 8 → layerOf w n .on ≡ true → layerOf w n .graphics ≡ false
+    → layerOf w n .floats ≡ k
+    → startAt w n + 4 * (layerOf w n .width * layerOf w n .height) ≤ picturesLen k w
+unfolding startAt pictureStart picturesLen
+own-room k w n h o g f =
+    rw (← (own-len w n o g), f) (sum-room 8 n (pictureLenAt k w) h)
 
-pub starts-all : (w starts : List ℕ) (total n : ℕ) → n ≤ 8 → 8 ≤ n → StartsTo w starts total n
-    → pictures starts total ≡ picturesOf w
-unfolding pictureStart picturesLen
-starts-all w starts total n p q s =
-    let e : n ≡ 8 = omega arith in
-    ap₂ pictures (upto-done (s .written) (omega arith)) (s .sum ∙ ap (λ (k : ℕ). sumOf k (pictureLenAt w)) e)
+-- where no layer is a float layer, there are no floats
+pub no-floats : (w : List ℕ) → LetIn false w → picturesLen true w ≡ 0
+unfolding picturesLen pictureLenAt pictureLen
+no-floats w none = sum-cong 8 _ (λ _. 0) (λ n h. go (layerOf w n) (layerOf w n .floats) (none n h)) ∙ sum-zero 8
+  where
+    go : (l : Layer) (f : Bool) → (f ≡ true → false ≡ true)
+        → pick (both (l .on) (both (not (l .graphics)) f)) (4 * (l .width * l .height)) 0 ≡ 0
+    go l true h = absurd (true≢false (sym (h refl)))
+    go l false h = rw (both-none (not (l .graphics)), both-none (l .on))

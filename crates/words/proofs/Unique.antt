@@ -10,6 +10,7 @@ use Rattle.words.proofs.fields.ground_of.Reads as ground_of
 use Rattle.words.proofs.fields.active_bank.Reads as active_bank
 use Rattle.words.proofs.fields.layer_of.Reads as layer_of
 use Rattle.words.proofs.change.with_off.Reads as with_off
+use Rattle.words.proofs.change.with_bytes.Reads as with_bytes
 use Rattle.words.proofs.change.with_depth.Reads as with_depth
 use Rattle.words.proofs.change.with_pair.Reads as with_pair
 use Rattle.words.proofs.image.word_at.Reads as word_at
@@ -44,6 +45,9 @@ words-at-unique κs i a b e f p q = meet p q
 
 pub with-off-unique : (κs i a b e f : _) → with_off.Post κs i a e → with_off.Post κs i b f → a ≡ b
 with-off-unique κs i a b e f p q = meet p q
+
+pub with-bytes-unique : (κs i a b e f : _) → with_bytes.Post κs i a e → with_bytes.Post κs i b f → a ≡ b
+with-bytes-unique κs i a b e f p q = meet p q
 
 pub with-depth-unique : (κs i a b e f : _) → with_depth.Post κs i a e → with_depth.Post κs i b f → a ≡ b
 with-depth-unique κs i a b e f p q = meet p q

@@ -10,6 +10,10 @@ use lib.ListN.{getD, set}
 abbrev pub offWord : ℕ → ℕ
 offWord v = v / 2 * 2
 
+-- 02 K7, bit 2, a picture of floats: cleared
+abbrev pub bytesWord : ℕ → ℕ
+bytesWord v = v / 8 * 8 + v % 4
+
 -- "depth 10:8": d
 abbrev pub depthWord : ℕ → ℕ → ℕ
 depthWord v d = v / 2048 * 2048 + d * 256 + v % 256
@@ -23,6 +27,10 @@ pairWord v a b = v / 268435456 * 268435456 + b * 65536 + v / 4096 % 16 * 4096 + 
 -- switched off
 unfoldable pub withOff : List ℕ → ℕ → List ℕ
 withOff w n = set w (4 + 6 * n) (offWord (getD w (4 + 6 * n) 0))
+
+-- with a picture of bytes
+unfoldable pub withBytes : List ℕ → ℕ → List ℕ
+withBytes w n = set w (4 + 6 * n) (bytesWord (getD w (4 + 6 * n) 0))
 
 -- at depth d
 unfoldable pub withDepth : List ℕ → ℕ → ℕ → List ℕ

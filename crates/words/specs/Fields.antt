@@ -46,7 +46,8 @@ groundsOf w = record { c0 = groundOf w 0; c1 = groundOf w 1; c2 = groundOf w 2 }
 abbrev pub activeBankOf : List ℕ → ℕ → ℕ → ℕ
 activeBankOf w g kind = getD w 3 0 / 2 ^ (8 * kind + g) % 2
 
--- word 4+6n: "layer n: bit 0 enabled, bit 1 graphics, depth 10:8"; 5+6n: "bit 31 global alpha, value
+-- word 4+6n: "layer n: bit 0 enabled, bit 1 graphics, depth 10:8", and 02 K7: "Bit 2 of a layer's first word now says that
+-- its picture comes from a second lent buffer of f32 numbers"; 5+6n: "bit 31 global alpha, value
 -- 7:0"; 6+6n: "x 11:0, y 27:16"; 7+6n: "width 11:0, height 27:16"; 8+6n: "fade start frame, all 32
 -- bits"; 9+6n: "fade length 15:0, fade target 23:16"
 abbrev pub decode : ℕ → ℕ → ℕ → ℕ → ℕ → ℕ → Layer
@@ -54,6 +55,7 @@ decode kind alpha place size begin fade =
     record {
       on = eqb (kind % 2) 1;
       graphics = eqb (kind / 2 % 2) 1;
+      floats = eqb (kind / 4 % 2) 1;
       depth = kind / 256 % 8;
       global = eqb (alpha / 2147483648 % 2) 1;
       value = alpha % 256;

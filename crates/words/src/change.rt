@@ -1,12 +1,19 @@
 // The 52 words with a field of one layer replaced. No other file writes a field of a word.
 ghost use mathlib.Core.Path.{_≡_};
 ghost use Prim.Native.Nat.{_<_};
-ghost use Rattle.words.specs.Change.{offWord, depthWord, pairWord, withOff, withDepth, withPair};
+ghost use Rattle.words.specs.Change.{offWord, bytesWord, depthWord, pairWord};
+ghost use Rattle.words.specs.Change.{withOff, withBytes, withDepth, withPair};
 
 fn off_word(v: u32) -> u32
     ensures { λ r. ⌜ r ≡ offWord v ⌝ }
 {
     v / 2 * 2
+}
+
+fn bytes_word(v: u32) -> u32
+    ensures { λ r. ⌜ r ≡ bytesWord v ⌝ }
+{
+    v / 8 * 8 + v % 4
 }
 
 fn depth_word(v: u32, d: u32) -> u32
@@ -29,6 +36,16 @@ pub fn with_off(mut w: [u32; 52], n: usize) -> [u32; 52]
     ensures { λ r. ⌜ r ≡ withOff w n ⌝ }
 {
     let word = off_word(w[4 + 6 * n]);
+    w[4 + 6 * n] = word;
+    w
+}
+
+// Layer n with its picture among the bytes.
+pub fn with_bytes(mut w: [u32; 52], n: usize) -> [u32; 52]
+    requires { ⌜ n < 8 ⌝ }
+    ensures { λ r. ⌜ r ≡ withBytes w n ⌝ }
+{
+    let word = bytes_word(w[4 + 6 * n]);
     w[4 + 6 * n] = word;
     w
 }

@@ -10,6 +10,8 @@ ghost use Rattle.words.specs.Fields.{activeBankOf, layerOf, lowOf, highO
 pub struct Layer {
     pub on: bool,
     pub graphics: bool,
+    // Whether its picture is among the floats.
+    pub floats: bool,
     pub depth: u32,
     pub global: bool,
     pub value: u8,
@@ -109,6 +111,7 @@ pub fn layer_of(w: &[u32; 52], n: usize) -> Layer
     Layer {
         on: kind % 2 == 1,
         graphics: kind / 2 % 2 == 1,
+        floats: kind / 4 % 2 == 1,
         depth: kind / 256 % 8,
         global: alpha / 2147483648 % 2 == 1,
         value: (alpha % 256) as u8,

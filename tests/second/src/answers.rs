@@ -16,7 +16,7 @@ pub const BANK_FULL: u32 = 5;
 /// "put, paint: tables not 29,696 bytes"; 02 K2: "6 compares with the chosen length, in the host
 /// entry with both"
 pub const WRONG_TABLES: u32 = 6;
-/// "start: a reserved bit is set in any pending word"
+/// "start: a reserved bit is set in any pending word"; 02 K7: "7 now for bits 1 and 2 together"
 pub const RESERVED_BIT: u32 = 7;
 /// "start: output width or height 0"
 pub const NO_OUTPUT: u32 = 8;
@@ -39,5 +39,7 @@ pub const WRONG_BAND: u32 = 15;
 pub const WRONG_IMAGE: u32 = 16;
 /// 02 K2: "17 for a bit number other than 1 or 2 when making a state"
 pub const WRONG_BITS: u32 = 17;
+/// 02 K7: "18 for a float buffer of the wrong total length, after 14"
+pub const WRONG_FLOATS: u32 = 18;
 /// A call from C whose state is not 440 bytes.
 pub const WRONG_STATE: u32 = 23;

@@ -3,7 +3,8 @@
 
 use crate::display::Display;
 use crate::fade::Fade;
-use crate::paint::blend;
+use crate::floats::Floats;
+use crate::paint::{blend, Pictures};
 use crate::tables::{Bank, Bits, Kind};
 
 /// Two numbers at 11:0 and 27:16.
@@ -13,7 +14,7 @@ fn pair(low: u32, high: u32) -> u32 {
 
 /// A screen of that size, with its display on.
 fn screen(width: u32, height: u32) -> Display {
-    let mut display = Display::fresh(Bits::One);
+    let mut display = Display::fresh(Bits::One, Floats::Without);
     display.write(0, 0b101);
     display.write(1, pair(width, height));
     display
@@ -37,7 +38,7 @@ fn box_at(weight: u32, u: usize, v: usize) -> u32 {
         display.write(register, value);
     }
     display.start();
-    display.frame(&tables, &[], &mut out);
+    display.frame(&tables, Pictures::of_bytes(&[]), &mut out);
     u32::from(out[4 * (8 * v + u)])
 }
 
@@ -57,7 +58,8 @@ fn paint_with(length: usize) -> u32 {
         display.write(register, value);
     }
     display.start();
-    display.paint(0, 8, &[0; Bits::One.tables_len()], &vec![0; length], &mut [0; 64])
+    let (tables, pictures) = ([0; Bits::One.tables_len()], vec![0; length]);
+    display.paint(0, 8, &tables, Pictures::of_bytes(&pictures), &mut [0; 64])
 }
 
 /// A name and a number.
@@ -105,7 +107,7 @@ fn calls() -> Vec<Figure> {
     for length in [28, 27, 29] {
         figures.push((format!("{length} picture bytes"), paint_with(length)));
     }
-    let mut display = Display::fresh(Bits::One);
+    let mut display = Display::fresh(Bits::One, Floats::Without);
     for (name, bits) in [("error word", 0x11), ("toggled by 16", 0x10), ("and again", 0x10)] {
         display.toggle(bits);
         figures.push((name.into(), display.errors()));

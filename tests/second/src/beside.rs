@@ -1,7 +1,7 @@
 //! What the tests share that run another program beside this display. It reads no section of
 //! document 01.
 
-use crate::cases::{HostCase, MendCase};
+use crate::cases::{HostCase, MendCase, Series};
 use crate::doors::{begin_record, Door, Stage, Step, Told, COUNT, OUTPUT, STATE};
 use crate::mend::{Lent, LIST_LEN};
 use std::collections::BTreeMap;
@@ -241,6 +241,46 @@ impl Doors {
     }
 }
 
+/// The output after the last call of a row, which has to be done.
+pub fn last_output(calls: Calls, steps: &[Step]) -> Result<Vec<u8>, String> {
+    match calls(steps).pop() {
+        Some(Told { answer: 0, is_touched: false, out, .. }) => Ok(out),
+        Some(Told { answer, is_touched, .. }) => {
+            Err(format!("it answers {answer}, touches others: {is_touched}"))
+        }
+        None => Err("the program ends".into()),
+    }
+}
+
+/// What carries a float to be painted: a channel of an opaque pixel, or the alpha of a white one
+/// over black.
+#[derive(Clone, Copy, Debug, PartialEq, Eq)]
+pub enum Place {
+    Channels,
+    Alpha,
+}
+
+/// The C program of `float_bytes.c`, which answers one request after another.
+pub struct FloatBytes {
+    child: Child,
+}
+
+impl FloatBytes {
+    pub fn start() -> FloatBytes {
+        FloatBytes { child: spawn(&program("SPOONWING_FLOATS", "../../tools/c-floats")) }
+    }
+
+    /// The byte of each float, painted by one of the three doors.
+    pub fn bytes(&mut self, door: Door, place: Place, series: Series) -> io::Result<Vec<u8>> {
+        let Series { first, step, count } = series;
+        let by = [Door::Paint, Door::Frame, Door::Line].iter().position(|&it| it == door);
+        let by = by.expect("it paints layers") as u32;
+        let request = [by, place as u32, first, step, count];
+        write(&mut self.child, &request.map(u32::to_le_bytes).concat())?;
+        read(&mut self.child, count as usize)
+    }
+}
+
 /// The C program of `mend_calls.c`, which makes one call after another.
 pub struct Mends {
     child: Child,
@@ -356,7 +396,7 @@ pub fn shown(step: &Step) -> String {
             let word = |chunk: &[u8]| chunk.iter().rev().fold(0, |n, &b| n << 8 | u32::from(b));
             let words = bytes.chunks(4).map(word).enumerate().filter(|&(_, word)| word != 0);
             let words: String = words.map(|(i, word)| format!(" {}: {word:08X}", 4 * i)).collect();
-            let name = ["state", "tables", "pictures", "output", "run", "count"][*buffer];
+            let name = ["state", "tables", "pictures", "floats", "output", "run", "count"][*buffer];
             format!("{name} of {} bytes:{words}", bytes.len())
         }
     }

@@ -1,8 +1,10 @@
 //! 01 "What the display is made of", "Registers", "Tables" and "Answers by number": the state and
-//! its calls; 02 K1: runs of two of them, K2: its bits, K3: a line. Every call answers its number.
+//! its calls; 02 K1: runs of two of them, K2: its bits, K3: a line, K7: its floats. Every call
+//! answers its number.
 
 use crate::answers::*;
-use crate::paint;
+use crate::floats::Floats;
+use crate::paint::{self, Pictures};
 use crate::tables::{Bank, Bits, Tables};
 use crate::words::{Words, WORDS};
 
@@ -11,10 +13,11 @@ pub const ITEM_LEN: usize = 5;
 
 /// "The state holds pending registers, active registers, frame number (32 bits), error word (32
 /// bits), and a table selection with its place." And "The number of bits is chosen when a state is
-/// made".
+/// made", as is whether it has a float buffer.
 #[derive(Clone, Debug, PartialEq, Eq)]
 pub struct Display {
     pub(crate) bits: Bits,
+    pub(crate) floats: Floats,
     pub(crate) pending: Words,
     pub(crate) active: Words,
     pub(crate) frame: u32,
@@ -40,18 +43,19 @@ pub enum Painting {
 
 impl Display {
     /// "17 for a bit number other than 1 or 2 when making a state, handing back a fresh one-bit
-    /// state"
-    pub fn new(bits: u32) -> (u32, Display) {
+    /// state", which has the float buffer that was asked for.
+    pub fn new(bits: u32, floats: Floats) -> (u32, Display) {
         match Bits::of_number(bits) {
-            Some(bits) => (DONE, Display::fresh(bits)),
-            None => (WRONG_BITS, Display::fresh(Bits::One)),
+            Some(bits) => (DONE, Display::fresh(bits, floats)),
+            None => (WRONG_BITS, Display::fresh(Bits::One, floats)),
         }
     }
 
     /// "A fresh state has all numbers 0 and nothing selected."
-    pub fn fresh(bits: Bits) -> Display {
+    pub fn fresh(bits: Bits, floats: Floats) -> Display {
         Display {
             bits,
+            floats,
             pending: Words::fresh(),
             active: Words::fresh(),
             frame: 0,
@@ -62,6 +66,10 @@ impl Display {
 
     pub fn bits(&self) -> Bits {
         self.bits
+    }
+
+    pub fn floats(&self) -> Floats {
+        self.floats
     }
 
     pub fn errors(&self) -> u32 {
@@ -128,7 +136,7 @@ impl Display {
         if !self.pending.update_enabled() {
             return DONE;
         }
-        let answer = self.pending.check();
+        let answer = self.pending.check(self.floats);
         if answer == DONE {
             self.active = self.pending.clone();
         }
@@ -183,13 +191,13 @@ impl Display {
         DONE
     }
 
-    /// "Paint 15, 12, 13, 6, 14."
+    /// "Paint 15, 12, 13, 6, 14.", and 18.
     fn paint_refusal(
         &self,
         low: u32,
         high: u32,
         tables: &[u8],
-        pictures: &[u8],
+        pictures: Pictures,
         out: &[u8],
     ) -> u32 {
         if low > high || high > 8 {
@@ -209,7 +217,7 @@ impl Display {
         low: u32,
         high: u32,
         tables: &[u8],
-        pictures: &[u8],
+        pictures: Pictures,
         out: &mut [u8],
     ) -> u32 {
         let answer = self.paint_refusal(low, high, tables, pictures, out);
@@ -221,7 +229,7 @@ impl Display {
     }
 
     /// "A whole frame is a fill and band 0..8, refused as paint."
-    pub fn frame(&mut self, tables: &[u8], pictures: &[u8], out: &mut [u8]) -> u32 {
+    pub fn frame(&mut self, tables: &[u8], pictures: Pictures, out: &mut [u8]) -> u32 {
         let answer = self.paint_refusal(0, 8, tables, pictures, out);
         if answer == DONE {
             paint::fill(&self.active, out);
@@ -232,8 +240,8 @@ impl Display {
     }
 
     /// "Refusals in order: 12, 15 for a line number at or past the height, 13 against 4·width, 6,
-    /// 14."
-    fn line_refusal(&self, y: u32, tables: &[u8], pictures: &[u8], out: &[u8]) -> u32 {
+    /// 14.", and 18.
+    fn line_refusal(&self, y: u32, tables: &[u8], pictures: Pictures, out: &[u8]) -> u32 {
         if self.active.output_len() == 0 {
             return NOTHING_ACTIVE;
         }
@@ -245,7 +253,7 @@ impl Display {
     }
 
     /// Line y of the whole frame, in "one lent output line".
-    pub fn line(&mut self, y: u32, tables: &[u8], pictures: &[u8], out: &mut [u8]) -> u32 {
+    pub fn line(&mut self, y: u32, tables: &[u8], pictures: Pictures, out: &mut [u8]) -> u32 {
         let answer = self.line_refusal(y, tables, pictures, out);
         if answer == DONE {
             let tables = self.tables(tables);
@@ -261,7 +269,7 @@ impl Painting {
         self,
         display: &mut Display,
         tables: &[u8],
-        pictures: &[u8],
+        pictures: Pictures,
         out: &mut [u8],
     ) -> u32 {
         match self {

@@ -3,6 +3,8 @@
 
 use crate::answers::WRONG_STATE;
 use crate::display::{Display, Painting};
+use crate::floats::{numbers_of, Floats, FLOAT_LEN};
+use crate::paint::Pictures;
 use crate::state::{read_state, state_bytes};
 
 #[derive(Clone, Copy, Debug, PartialEq, Eq)]
@@ -29,18 +31,28 @@ pub enum Door {
 pub const STATE: usize = 0;
 pub const TABLES: usize = 1;
 pub const PICTURES: usize = 2;
-pub const OUTPUT: usize = 3;
-pub const RUN: usize = 4;
+/// Numbers, of which whole ones are lent.
+pub const FLOATS: usize = 3;
+pub const OUTPUT: usize = 4;
+pub const RUN: usize = 5;
 /// Where a run's count is written, a `size_t`.
-pub const COUNT: usize = 5;
-pub const BUFFERS: usize = 6;
+pub const COUNT: usize = 6;
+pub const BUFFERS: usize = 7;
 
 pub const COUNT_LEN: usize = 8;
 
-/// How far past an address that sixteen divides a buffer may begin: anywhere, but a `size_t` is
-/// aligned.
+/// What the bytes of a buffer are counted and aligned by: floats and a `size_t` are whole.
+pub fn unit(buffer: usize) -> usize {
+    match buffer {
+        FLOATS => FLOAT_LEN,
+        COUNT => COUNT_LEN,
+        _ => 1,
+    }
+}
+
+/// How far past an address that sixteen divides a buffer may begin: anywhere where it is aligned.
 pub fn places(buffer: usize) -> Vec<usize> {
-    (0..16).step_by(if buffer == COUNT { COUNT_LEN } else { 1 }).collect()
+    (0..16).step_by(unit(buffer)).collect()
 }
 
 impl Door {
@@ -72,7 +84,7 @@ impl Door {
         match buffer {
             STATE => true,
             TABLES => self.takes(PICTURES) || matches!(self, Door::Put | Door::PutRun),
-            PICTURES => matches!(self, Door::Paint | Door::Frame | Door::Line),
+            PICTURES | FLOATS => matches!(self, Door::Paint | Door::Frame | Door::Line),
             OUTPUT => self.takes(PICTURES) || self == Door::Fill,
             _ => matches!(self, Door::PutRun | Door::WriteRun),
         }
@@ -89,7 +101,7 @@ impl Door {
 pub struct LentBytes<'a> {
     pub state: &'a mut [u8],
     pub tables: &'a mut [u8],
-    pub pictures: &'a [u8],
+    pub pictures: Pictures<'a>,
     pub out: &'a mut [u8],
     pub run: &'a [u8],
     pub count: &'a mut [u8],
@@ -106,8 +118,9 @@ pub fn call(door: Door, a: u32, b: u32, lent: LentBytes) -> u32 {
         return if door.is_read() { 0 } else { WRONG_STATE };
     };
     let answer = match door {
+        // Whatever the bytes said before, float layers are let in.
         Door::New => {
-            let (answer, fresh) = Display::new(a);
+            let (answer, fresh) = Display::new(a, Floats::With);
             display = fresh;
             answer
         }
@@ -140,7 +153,7 @@ fn counted((answer, done): (u32, usize), count: &mut [u8]) -> u32 {
 // ---- rows
 
 /// How many bytes each buffer's owner has; a call is lent some of them, from the first on.
-pub const ROOM: usize = 1 << 17;
+pub const ROOM: usize = 1 << 18;
 
 /// So many bytes, the first of them that far past an address that sixteen divides.
 #[derive(Clone, Copy, Debug, Default, PartialEq, Eq)]
@@ -197,7 +210,7 @@ pub fn begin_record() -> Vec<u8> {
     record([BEGIN, 0, 0, 0], &Default::default())
 }
 
-/// Sixteen little-endian numbers.
+/// Eighteen little-endian numbers.
 fn record(numbers: [u32; 4], lent: &[Lent; BUFFERS]) -> Vec<u8> {
     let lengths = lent.iter().map(|lent| lent.length as u32);
     let past = lent.iter().map(|lent| lent.past as u32);
@@ -256,10 +269,11 @@ impl Stage {
     }
 
     fn call(&mut self, door: Door, a: u32, b: u32, lent: &[Lent; BUFFERS]) -> Told {
-        let [state, tables, pictures, out, run, count] = &mut self.rooms;
+        let [state, tables, pictures, floats, out, run, count] = &mut self.rooms;
         let state = &mut state[..lent[STATE].length];
         let tables = &mut tables[..lent[TABLES].length];
-        let pictures = &pictures[..lent[PICTURES].length];
+        let floats = numbers_of(&floats[..lent[FLOATS].length]);
+        let pictures = Pictures { bytes: &pictures[..lent[PICTURES].length], floats: &floats };
         let out = &mut out[..lent[OUTPUT].length];
         let run = &run[..lent[RUN].length];
         let count = &mut count[..lent[COUNT].length];

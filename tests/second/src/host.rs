@@ -1,8 +1,9 @@
 //! 01 "Sheet program and host entry", its last paragraph: a whole frame from a register image,
-//! without a state. 02 K2: it "goes by the table length".
+//! without a state. 02 K2: it "goes by the table length", K7: it has no float buffer.
 
 use crate::answers::*;
-use crate::paint;
+use crate::floats::Floats;
+use crate::paint::{self, Pictures};
 use crate::tables::Tables;
 use crate::words::{Words, WORDS};
 
@@ -25,11 +26,11 @@ pub fn host_frame(image: &[u8], frame: u32, tables: &[u8], pictures: &[u8], out:
     let Some(words) = image_words(image) else {
         return WRONG_IMAGE;
     };
-    let answer = words.check();
+    let answer = words.check(Floats::Without);
     if answer != DONE {
         return answer;
     }
-    let tables = Tables::by_length(tables);
+    let (tables, pictures) = (Tables::by_length(tables), Pictures::of_bytes(pictures));
     let answer = paint::buffer_refusal(&words, tables, pictures, words.output_len(), out);
     if answer == DONE {
         paint::fill(&words, out);

@@ -10,6 +10,7 @@ pub mod display;
 pub mod doors;
 pub mod draw;
 pub mod fade;
+pub mod floats;
 pub mod host;
 pub mod mend;
 pub mod paint;

@@ -1,10 +1,11 @@
-//! 02 K4 "Repair of a register image": the steps in the request's order, the list of what changed,
-//! the call from C, and the program that mends an image a line.
+//! 02 K4 "Repair of a register image": the steps in the request's order, with K7's, the list of
+//! what changed, the call from C, and the program that mends an image a line.
 
 use crate::answers::*;
 use crate::host::{image_words, IMAGE_LEN};
 use crate::sheet::{read_digits, read_lines};
-use crate::words::{field, layer_word, named_bits, Words, DEPTH_BITS, LAYERS, WORDS};
+use crate::words::{field, layer_word, named_bits, Words, LAYERS, WORDS};
+use crate::words::{DEPTH_BITS, FLOAT_BIT, KIND_BITS};
 
 /// "the old and new value of each changed word"
 #[derive(Clone, Copy, Debug, PartialEq, Eq)]
@@ -49,10 +50,16 @@ fn enabled_layers(words: &Words) -> Vec<usize> {
     (0..LAYERS).filter(|&n| words.layer(n).enabled).collect()
 }
 
-/// "clear reserved bits"
+/// "clear reserved bits"; K7: "K4 clears bit 2 where bit 1 is set too."
 fn clear_reserved_bits(words: &mut Words) {
     for register in 0..WORDS {
         words.0[register] &= named_bits(register);
+    }
+    for n in 0..LAYERS {
+        let word = &mut words.0[layer_word(n)];
+        if *word & KIND_BITS == KIND_BITS {
+            *word &= !FLOAT_BIT;
+        }
     }
 }
 
@@ -71,7 +78,7 @@ fn switch_off_empty_layers(words: &mut Words) {
     }
 }
 
-/// "switch off an enabled frame layer larger than the screen either way"
+/// "switch off an enabled frame layer larger than the screen either way", a float layer too.
 fn switch_off_large_frame_layers(words: &mut Words) {
     for n in enabled_layers(words) {
         let layer = words.layer(n);

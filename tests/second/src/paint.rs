@@ -1,9 +1,10 @@
-//! 01 "Painting": fill, blend and bands over a lent output; 02 K3: one line of a frame. A layer is
-//! painted where it lies on the screen, also in words that no start lets in. The state and most
-//! refusals are in `display`.
+//! 01 "Painting": fill, blend and bands over a lent output; 02 K3: one line of a frame, K7: float
+//! pictures. A layer is painted where it lies on the screen, also in words that no start lets in.
+//! The state and most refusals are in `display`.
 
 use crate::answers::*;
 use crate::draw::{Letters, List};
+use crate::floats::byte_of;
 use crate::tables::{Kind, Tables};
 use crate::words::{Words, LAYERS};
 use std::ops::Range;
@@ -14,11 +15,26 @@ pub fn blend(a: u32, over: u32, under: u32) -> u32 {
     (a * over + (255 - a) * under + 127) / 255
 }
 
-/// The end of each order of painting: "13, 6, 14", where the output has to have so many bytes.
+/// The two buffers that pictures are lent in, that of "f32 numbers" by their bits.
+#[derive(Clone, Copy, Debug)]
+pub struct Pictures<'a> {
+    pub bytes: &'a [u8],
+    pub floats: &'a [u32],
+}
+
+impl<'a> Pictures<'a> {
+    /// Those of the host entry and the sheet program, "which have no such buffer".
+    pub fn of_bytes(bytes: &'a [u8]) -> Pictures<'a> {
+        Pictures { bytes, floats: &[] }
+    }
+}
+
+/// The end of each order of painting: "13, 6, 14" and "18 .. after 14", where the output has to
+/// have so many bytes.
 pub fn buffer_refusal(
     words: &Words,
     tables: Tables,
-    pictures: &[u8],
+    pictures: Pictures,
     output_len: i64,
     out: &[u8],
 ) -> u32 {
@@ -26,8 +42,10 @@ pub fn buffer_refusal(
         WRONG_OUTPUT
     } else if !tables.are_whole() {
         WRONG_TABLES
-    } else if pictures.len() as i64 != words.pictures_len() {
+    } else if pictures.bytes.len() as i64 != words.pictures_len() {
         WRONG_PICTURES
+    } else if pictures.floats.len() as i64 != words.floats_len() {
+        WRONG_FLOATS
     } else {
         DONE
     }
@@ -50,7 +68,7 @@ pub fn band(
     low: u32,
     high: u32,
     tables: Tables,
-    pictures: &[u8],
+    pictures: Pictures,
     out: &mut [u8],
 ) -> u32 {
     let mut errors = 0;
@@ -80,7 +98,7 @@ pub fn line(
     frame: u32,
     y: i64,
     tables: Tables,
-    pictures: &[u8],
+    pictures: Pictures,
     out: &mut [u8],
 ) -> u32 {
     fill(words, out);
@@ -111,37 +129,41 @@ impl Shown {
 }
 
 /// What an enabled layer shows at each of its pixels that lies on those lines of the screen. A
-/// frame layer's picture is "in raster order"; for a graphics layer "the colour table gives channel
-/// 0, 1, 2, alpha for an index (000)". "u, v count from the layer's corner".
+/// frame layer's picture is "in raster order", a float layer's by the bytes that its numbers
+/// become; for a graphics layer "the colour table gives channel 0, 1, 2, alpha for an index (000)".
+/// "u, v count from the layer's corner".
 pub fn shown(
     words: &Words,
     n: usize,
     lines: Range<i64>,
     frame: u32,
     tables: Tables,
-    pictures: &[u8],
+    pictures: Pictures,
 ) -> Vec<Shown> {
     let layer = words.layer(n);
     let list = List::read(tables.active(words, Kind::Instruction, n));
     let colours = tables.active(words, Kind::Colour, n);
     let letters = Letters::active(words, n, tables);
-    let picture = words.picture_start(n);
-    let over = |u: i64, v: i64| {
+    let [picture, floats] = [words.picture_start(n), words.float_start(n)];
+    let over = |u: i64, v: i64| -> [u8; 4] {
+        let raster = 4 * (layer.width * v + u);
         if layer.graphics {
             let at = 4 * list.index_at(&letters, u, v);
-            &colours[at..at + 4]
+            std::array::from_fn(|channel| colours[at + channel])
+        } else if layer.float {
+            let at = (floats + raster) as usize;
+            std::array::from_fn(|channel| byte_of(pictures.floats[at + channel]))
         } else {
-            let at = (picture + 4 * (layer.width * v + u)) as usize;
-            &pictures[at..at + 4]
+            let at = (picture + raster) as usize;
+            std::array::from_fn(|channel| pictures.bytes[at + channel])
         }
     };
     let pixel = |u: i64, v: i64| {
-        let over = over(u, v);
-        let alpha = if layer.global_alpha { layer.fade.at(frame) } else { u32::from(over[3]) };
+        let [channel_0, channel_1, channel_2, alpha] = over(u, v);
         Shown {
             at: (4 * (words.width() * (layer.y + v - lines.start) + layer.x + u)) as usize,
-            channels: [over[0], over[1], over[2]],
-            alpha,
+            channels: [channel_0, channel_1, channel_2],
+            alpha: if layer.global_alpha { layer.fade.at(frame) } else { alpha.into() },
         }
     };
     pixels(words, n, &lines).map(|(u, v)| pixel(u, v)).collect()

@@ -4,21 +4,34 @@
 use crate::answers::DONE;
 use crate::bench::print_bench;
 use crate::display::{Display, Painting};
+use crate::floats::Floats;
+use crate::paint::Pictures;
 use crate::sums::{blends, checksum, fades};
 use crate::tables::Bits;
 use std::ops::Range;
 
-/// A fresh display of a bits a glyph pixel, buffers of zeros, whole tables lent and nothing else.
+/// A fresh display of a bits a glyph pixel, with a float buffer unless b is 0; buffers of zeros,
+/// whole tables lent and nothing else.
 pub const NEW: u8 = b'N';
-/// Of buffer a (0 tables, 1 pictures, else the output) b bytes are lent from now on.
+/// Of buffer a (0 tables, 1 pictures, 3 floats, else the output) b bytes are lent from now on, and
+/// b numbers of the floats.
 pub const LEND: u8 = b'L';
+/// The buffers by number.
+pub const TABLES: u32 = 0;
+pub const PICTURES: u32 = 1;
+pub const OUT: u32 = 2;
+pub const FLOATS: u32 = 3;
 /// Tables, pictures and output filled by `pattern` from a in steps of b.
 pub const FILL_TABLES: u8 = b'K';
 pub const FILL_PICTURES: u8 = b'I';
 pub const FILL_OUT: u8 = b'D';
+/// The floats filled by `float_pattern` from a in steps of b.
+pub const FILL_FLOATS: u8 = b'A';
 /// The little-endian word b at byte a of the tables or the pictures.
 pub const TABLE_WORD: u8 = b'Q';
 pub const PICTURE_WORD: u8 = b'J';
+/// The f32 whose bits are b as number a of the floats.
+pub const FLOAT: u8 = b'Z';
 /// Write b to register a.
 pub const WRITE: u8 = b'W';
 pub const SELECT: u8 = b'S';
@@ -52,7 +65,8 @@ pub const FADES: u8 = b'E';
 pub const CALLS: [u8; 11] =
     [WRITE, SELECT, TOGGLE, START, PUT, PUT_RUN, WRITE_RUN, FILL, BAND, FRAME, LINE];
 
-/// The buffers are longer than any right length, so that a call can be lent too much.
+/// The buffers are longer than any right length, so that a call can be lent too much. The floats
+/// have as many numbers as the pictures bytes.
 const TABLES_ROOM: usize = Bits::Two.tables_len() + 16;
 const PIXELS_ROOM: usize = 4_096 + 16;
 
@@ -124,11 +138,12 @@ pub fn views(stage: &Stage, call: Call) -> Vec<Call> {
     call.lent_out(stage.lent.out).step_by(VIEW_LEN).map(record).collect()
 }
 
-/// How many bytes of each buffer are lent.
+/// How many bytes of each buffer are lent, and how many floats.
 #[derive(Clone, Copy, PartialEq, Eq)]
 pub struct Lent {
     pub tables: usize,
     pub pictures: usize,
+    pub floats: usize,
     pub out: usize,
 }
 
@@ -137,6 +152,8 @@ pub struct Stage {
     pub display: Display,
     pub tables: Vec<u8>,
     pub pictures: Vec<u8>,
+    /// By their bits.
+    pub floats: Vec<u32>,
     pub out: Vec<u8>,
     pub lent: Lent,
     /// How many times more a band, a frame or a line is made.
@@ -150,25 +167,27 @@ impl Default for Stage {
 }
 
 impl Stage {
-    /// Before the first record there is a display of one bit.
+    /// Before the first record there is a display of one bit, without a float buffer.
     pub fn new() -> Stage {
-        Stage::of(Display::fresh(Bits::One))
+        Stage::of(Display::fresh(Bits::One, Floats::Without))
     }
 
     fn of(display: Display) -> Stage {
         Stage {
-            lent: Lent { tables: display.bits().tables_len(), pictures: 0, out: 0 },
+            lent: Lent { tables: display.bits().tables_len(), pictures: 0, floats: 0, out: 0 },
             display,
             tables: vec![0; TABLES_ROOM],
             pictures: vec![0; PIXELS_ROOM],
+            floats: vec![0; PIXELS_ROOM],
             out: vec![0; PIXELS_ROOM],
             more: 0,
         }
     }
 
     /// Makes a display and answers the number.
-    fn make(&mut self, bits: u32) -> u32 {
-        let (answer, display) = Display::new(bits);
+    fn make(&mut self, bits: u32, floats: u32) -> u32 {
+        let floats = if floats == 0 { Floats::Without } else { Floats::With };
+        let (answer, display) = Display::new(bits, floats);
         *self = Stage::of(display);
         answer
     }
@@ -189,9 +208,10 @@ impl Stage {
 
     /// Paints layers, as often as is asked for: the last answer.
     fn paint(&mut self, call: Call, painting: Painting) -> u32 {
-        let Stage { display, tables, pictures, out, lent, more } = self;
+        let Stage { display, tables, pictures, floats, out, lent, more } = self;
         let tables = &tables[..lent.tables];
-        let pictures = &pictures[..lent.pictures];
+        let pictures =
+            Pictures { bytes: &pictures[..lent.pictures], floats: &floats[..lent.floats] };
         let out = &mut out[call.lent_out(lent.out)];
         let paintings = (0..=*more).map(|_| painting.make(display, tables, pictures, out));
         paintings.last().expect("one at least")
@@ -200,7 +220,7 @@ impl Stage {
     /// The records that make no run and paint no layer.
     fn play_one(&mut self, call: Call) -> u32 {
         let Call { letter, a, b } = call;
-        let Stage { display, tables, pictures, out, lent, more } = self;
+        let Stage { display, tables, pictures, floats, out, lent, more } = self;
         let lent_tables = &mut tables[..lent.tables];
         match letter {
             WRITE => return display.write(a, b),
@@ -212,14 +232,16 @@ impl Stage {
                 return puts.last().expect("one at least");
             }
             FILL => return display.fill(&mut out[call.lent_out(lent.out)]),
-            NEW => return self.make(a),
+            NEW => return self.make(a, b),
             AGAIN => *more = a % MOST_TIMES,
             LEND => self.lend(a, b as usize),
             FILL_TABLES => pattern(tables, a, b, false),
             FILL_PICTURES => pattern(pictures, a, b, true),
             FILL_OUT => pattern(out, a, b, false),
+            FILL_FLOATS => float_pattern(floats, a, b),
             TABLE_WORD => store(tables, a, b),
             PICTURE_WORD => store(pictures, a, b),
+            FLOAT => floats.iter_mut().skip(a as usize).take(1).for_each(|number| *number = b),
             _ => {}
         }
         DONE
@@ -228,8 +250,9 @@ impl Stage {
     /// More than a buffer has is all of it.
     fn lend(&mut self, buffer: u32, length: usize) {
         match buffer {
-            0 => self.lent.tables = length.min(TABLES_ROOM),
-            1 => self.lent.pictures = length.min(PIXELS_ROOM),
+            TABLES => self.lent.tables = length.min(TABLES_ROOM),
+            PICTURES => self.lent.pictures = length.min(PIXELS_ROOM),
+            FLOATS => self.lent.floats = length.min(PIXELS_ROOM),
             _ => self.lent.out = length.min(PIXELS_ROOM),
         }
     }
@@ -279,6 +302,23 @@ fn pattern(buffer: &mut [u8], first: u32, step: u32, pixels: bool) {
             (i64::from(number >> 22) - 384).clamp(0, 255) as u8
         } else {
             (number >> 24) as u8
+        };
+        number = number.wrapping_add(step);
+    }
+}
+
+/// Each number's bits go up with those of a number that goes up by a step, from less than a 680th
+/// to almost one and a half. Each fourth is an alpha, and the lowest and highest three eighths give
+/// 0.0 and 1.0.
+fn float_pattern(floats: &mut [u32], first: u32, step: u32) {
+    const LEAST: u32 = 0x3AC0_0000;
+    const ONE: u32 = 0x3F80_0000;
+    let mut number = first;
+    for (i, float) in floats.iter_mut().enumerate() {
+        *float = match number >> 22 {
+            ..384 if i % 4 == 3 => 0,
+            640.. if i % 4 == 3 => ONE,
+            _ => LEAST + number / 64 + number / 256,
         };
         number = number.wrapping_add(step);
     }

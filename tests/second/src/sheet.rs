@@ -1,8 +1,10 @@
 //! 01 "Sheet program and host entry", its first two paragraphs: lines of hexadecimal, one frame a
-//! line. 02 K2: "the sheet program has one" bit.
+//! line. 02 K2: "the sheet program has one" bit, K7: it has no float buffer.
 
 use crate::answers::DONE;
 use crate::display::Display;
+use crate::floats::Floats;
+use crate::paint::Pictures;
 use crate::tables::Bits;
 
 /// "at most 8,192 digits"
@@ -111,7 +113,8 @@ impl Default for Sheet {
 
 impl Sheet {
     pub fn new() -> Sheet {
-        Sheet { display: Display::fresh(BITS), tables: vec![0; BITS.tables_len()] }
+        let display = Display::fresh(BITS, Floats::Without);
+        Sheet { display, tables: vec![0; BITS.tables_len()] }
     }
 
     /// The printed line, with its line feed. "A badly formed, empty or too long line prints FE and
@@ -127,7 +130,8 @@ impl Sheet {
         let mut answer = if steps != DONE { steps } else { start };
         let mut out = vec![0; self.lent_output()];
         if answer == DONE {
-            answer = self.display.frame(&self.tables, &line.pictures, &mut out);
+            let pictures = Pictures::of_bytes(&line.pictures);
+            answer = self.display.frame(&self.tables, pictures, &mut out);
         }
         let mut printed = format!("{answer:02X}");
         if answer == DONE {

@@ -1,12 +1,15 @@
-//! Displays that are known to be wrong, for the tests to see (02 K5): each paints layers in an order
-//! that is not the one "worked out afresh from the active words", or by pictures that are not.
+//! Displays that are known to be wrong, for the tests to see: each paints layers in an order that
+//! is not the one "worked out afresh from the active words" (02 K5), or by pictures that are not,
+//! or takes float pictures otherwise than 02 K7 says.
 
 use crate::answers::*;
 use crate::display::{Display, Painting};
-use crate::doors::{self, Door, Step, Told, OUTPUT, PICTURES, STATE, TABLES};
+use crate::doors::{self, Door, Step, Told, FLOATS, OUTPUT, PICTURES, STATE, TABLES};
+use crate::floats::{byte_of, numbers_of};
+use crate::paint::Pictures;
 use crate::script::{Call, Stage, NEW, START};
 use crate::state::{read_state, state_bytes, STATE_LEN};
-use crate::words::{layer_word, Words, DEPTH_BITS, LAYERS};
+use crate::words::{layer_word, Words, DEPTH_BITS, FLOAT_BIT, LAYERS};
 use std::cmp::Reverse;
 use std::iter;
 
@@ -14,10 +17,13 @@ use std::iter;
 pub enum Fault {
     /// The right one. It has to go unseen, so that the others are seen for their faults.
     None,
-    /// A copying start leaves the order, the places of pictures or their total as they were.
+    /// A copying start leaves the order, the places of pictures or their total as they were, or
+    /// those of float pictures.
     OldOrder,
     OldPlaces,
     OldTotal,
+    OldFloatPlaces,
+    OldFloatTotal,
     /// The order is that of the pending words.
     PendingOrder,
     /// The order is one layer short.
@@ -29,14 +35,27 @@ pub enum Fault {
     BelievedOrder,
     /// Layers of one depth go by falling number.
     FallingNumbers,
+    /// A float layer's picture is taken from the bytes.
+    FloatsFromBytes,
+    /// Byte pictures do not skip float layers, by where they begin or by their total.
+    UnskippedPlaces,
+    UnskippedTotal,
+    /// A half goes down.
+    HalfDown,
+    /// What is not a number becomes 255.
+    NoneToMost,
+    /// 18 is asked before 14.
+    FloatsFirst,
 }
 
 impl Fault {
     /// Those of a display that is kept by calls alone.
-    pub const KEPT: [Fault; 7] = [
+    pub const KEPT: [Fault; 9] = [
         Fault::OldOrder,
         Fault::OldPlaces,
         Fault::OldTotal,
+        Fault::OldFloatPlaces,
+        Fault::OldFloatTotal,
         Fault::PendingOrder,
         Fault::OneShort,
         Fault::RefusedOrder,
@@ -44,6 +63,15 @@ impl Fault {
     ];
     /// And those that show only where a host stores the words by hand.
     pub const LENT: [Fault; 2] = [Fault::BelievedOrder, Fault::FallingNumbers];
+    /// Those of float layers, which need no change of the words.
+    pub const FLOATS: [Fault; 6] = [
+        Fault::FloatsFromBytes,
+        Fault::UnskippedPlaces,
+        Fault::UnskippedTotal,
+        Fault::HalfDown,
+        Fault::NoneToMost,
+        Fault::FloatsFirst,
+    ];
 }
 
 pub struct Impostor {
@@ -61,9 +89,11 @@ impl Impostor {
     fn started(&mut self, before: &Display, answer: u32) {
         let (is_looked_at, is_done) = (before.pending.update_enabled(), answer == DONE);
         let (words, is_taken) = match self.fault {
-            Fault::OldOrder | Fault::OldPlaces | Fault::OldTotal => {
-                (&before.active, is_looked_at && is_done)
-            }
+            Fault::OldOrder
+            | Fault::OldPlaces
+            | Fault::OldTotal
+            | Fault::OldFloatPlaces
+            | Fault::OldFloatTotal => (&before.active, is_looked_at && is_done),
             Fault::RefusedOrder => (&before.pending, is_looked_at),
             Fault::IdleOrder => (&before.pending, is_done),
             _ => (&before.pending, is_looked_at && is_done),
@@ -104,30 +134,86 @@ impl Impostor {
         display: &mut Display,
         painting: Painting,
         tables: &[u8],
-        pictures: &[u8],
+        pictures: Pictures,
         out: &mut [u8],
     ) -> u32 {
-        let active = display.active.clone();
-        // All refusals but the last, which goes by the pictures.
-        let right = vec![0; active.pictures_len() as usize];
-        let answer = painting.make(&mut display.clone(), tables, &right, &mut out.to_vec());
+        let answer = self.refusal(display, painting, tables, pictures, out);
         if answer != DONE {
             return answer;
         }
-        if pictures.len() as i64 != self.unless(Fault::OldTotal, &active).pictures_len() {
-            return WRONG_PICTURES;
-        }
+        let active = display.active.clone();
         let mut order = self.order(display);
         if let Painting::Band(low, high) = painting {
             order.retain(|&n| (low..high).contains(&active.layer(n).depth));
         }
         let words = ordered(&active, &order);
-        let pictures = pieces(&words, self.unless(Fault::OldPlaces, &active), pictures);
-        let mut seen = Display { active: words, ..display.clone() };
+        let bytes = self.pieces(&words, &active, pictures);
+        let mut seen = Display { active: by_bytes(&words), ..display.clone() };
         let whole = if let Painting::Band(..) = painting { Painting::Band(0, 8) } else { painting };
-        let answer = whole.make(&mut seen, tables, &pictures, out);
+        let answer = whole.make(&mut seen, tables, Pictures::of_bytes(&bytes), out);
         display.errors = seen.errors;
         answer
+    }
+
+    /// The refusals that do not go by layers, and then those that do.
+    fn refusal(
+        &self,
+        display: &Display,
+        painting: Painting,
+        tables: &[u8],
+        pictures: Pictures,
+        out: &[u8],
+    ) -> u32 {
+        let active = &display.active;
+        let mut bare = Display { active: ordered(active, &[]), ..display.clone() };
+        let none = Pictures::of_bytes(&[]);
+        let answer = painting.make(&mut bare, tables, none, &mut out.to_vec());
+        if answer != DONE {
+            return answer;
+        }
+        let is_unskipped = self.fault == Fault::UnskippedTotal;
+        let total = self.unless(Fault::OldTotal, active).pictures_len()
+            + if is_unskipped { active.floats_len() } else { 0 };
+        let float_total = self.unless(Fault::OldFloatTotal, active).floats_len();
+        let mut asked = [
+            (pictures.bytes.len() as i64 == total, WRONG_PICTURES),
+            (pictures.floats.len() as i64 == float_total, WRONG_FLOATS),
+        ];
+        if self.fault == Fault::FloatsFirst {
+            asked.reverse();
+        }
+        let wrong = asked.into_iter().find(|(is_right, _)| !is_right);
+        wrong.map_or(DONE, |(_, answer)| answer)
+    }
+
+    /// The pictures that those words paint, all of them as bytes, taken from where the active words
+    /// say that they begin.
+    fn pieces(&self, words: &Words, active: &Words, pictures: Pictures) -> Vec<u8> {
+        let shown = (0..LAYERS).filter(|&n| words.layer(n).enabled && !words.layer(n).graphics);
+        let piece = |n: usize| {
+            let layer = words.layer(n);
+            if layer.float && self.fault != Fault::FloatsFromBytes {
+                let start = self.unless(Fault::OldFloatPlaces, active).float_start(n);
+                let floats = part(pictures.floats, start, layer.picture_len());
+                return floats.into_iter().map(|bits| self.byte_of(bits)).collect();
+            }
+            let is_unskipped = self.fault == Fault::UnskippedPlaces;
+            let start = self.unless(Fault::OldPlaces, active).picture_start(n)
+                + if is_unskipped { active.float_start(n) } else { 0 };
+            part(pictures.bytes, start, layer.picture_len())
+        };
+        shown.flat_map(piece).collect()
+    }
+
+    fn byte_of(&self, bits: u32) -> u8 {
+        // What lies halfway between two bytes is an odd number over 510, and only this is an f32.
+        const HALF: u32 = 0x3F00_0000;
+        const INFINITE: u32 = 0x7F80_0000;
+        match self.fault {
+            Fault::HalfDown if bits == HALF => 127,
+            Fault::NoneToMost if bits & !(1 << 31) > INFINITE => 255,
+            _ => byte_of(bits),
+        }
     }
 
     // ---- by records and by calls from C
@@ -135,8 +221,10 @@ impl Impostor {
     /// Does what a record asks, as `Stage::play` does.
     pub fn play(&mut self, stage: &mut Stage, call: Call) -> (u32, usize) {
         let Some(painting) = call.painting() else { return self.play_beside(stage, call) };
-        let Stage { display, tables, pictures, out, lent, more } = stage;
-        let (tables, pictures) = (&tables[..lent.tables], &pictures[..lent.pictures]);
+        let Stage { display, tables, pictures, floats, out, lent, more } = stage;
+        let tables = &tables[..lent.tables];
+        let pictures =
+            Pictures { bytes: &pictures[..lent.pictures], floats: &floats[..lent.floats] };
         let out = &mut out[call.lent_out(lent.out)];
         let paintings = (0..=*more).map(|_| self.paint(display, painting, tables, pictures, out));
         (paintings.last().expect("one at least"), 0)
@@ -165,11 +253,16 @@ impl Impostor {
             return self.step_beside(stage, step);
         };
         let lengths = lent.map(|lent| lent.length);
-        let [state, tables, pictures, out, ..] = &mut stage.rooms;
-        let state = &mut state[..lengths[STATE]];
+        if lengths[STATE] != STATE_LEN {
+            return self.step_beside(stage, step);
+        }
+        let [state, tables, pictures, floats, out, ..] = &mut stage.rooms;
+        let state = &mut state[..STATE_LEN];
         let out = &mut out[..lengths[OUTPUT]];
-        let mut display = read_state(state).expect("it is lent whole");
-        let (tables, pictures) = (&tables[..lengths[TABLES]], &pictures[..lengths[PICTURES]]);
+        let mut display = read_state(state).expect("it is whole");
+        let floats = numbers_of(&floats[..lengths[FLOATS]]);
+        let pictures = Pictures { bytes: &pictures[..lengths[PICTURES]], floats: &floats };
+        let tables = &tables[..lengths[TABLES]];
         let answer = self.paint(&mut display, painting, tables, pictures, out);
         state.copy_from_slice(&state_bytes(&display));
         let (state, out) = (state.to_vec(), out.to_vec());
@@ -177,7 +270,7 @@ impl Impostor {
         Some(Told { answer, is_touched: false, state, changes, out, count })
     }
 
-    /// A step that paints no layer.
+    /// A step that paints no layer, or is lent no whole state.
     fn step_beside(&mut self, stage: &mut doors::Stage, step: &Step) -> Option<Told> {
         let state = |stage: &doors::Stage| {
             read_state(&stage.rooms[STATE][..STATE_LEN]).expect("it is whole")
@@ -208,13 +301,15 @@ fn ordered(words: &Words, order: &[usize]) -> Words {
     words
 }
 
-/// The pictures that those words paint, taken from where they begin by others; zeros where there are
-/// no bytes.
-fn pieces(words: &Words, places: &Words, pictures: &[u8]) -> Vec<u8> {
-    let shown = (0..LAYERS).filter(|&n| words.layer(n).enabled && !words.layer(n).graphics);
-    let piece = |n: usize| {
-        let rest = pictures.iter().skip(places.picture_start(n) as usize).copied();
-        rest.chain(iter::repeat(0)).take(words.layer(n).picture_len() as usize)
-    };
-    shown.flat_map(piece).collect()
+/// Words whose float layers are frame layers of bytes.
+fn by_bytes(words: &Words) -> Words {
+    let mut words = words.clone();
+    (0..LAYERS).for_each(|n| words.0[layer_word(n)] &= !FLOAT_BIT);
+    words
+}
+
+/// So many items from a place on; zeros where there are none.
+fn part<T: Copy + Default>(all: &[T], start: i64, length: i64) -> Vec<T> {
+    let rest = all.iter().skip(start as usize).copied();
+    rest.chain(iter::repeat(T::default())).take(length as usize).collect()
 }

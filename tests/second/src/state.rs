@@ -2,6 +2,7 @@
 //! bytes stand for some state.
 
 use crate::display::{Display, Selected};
+use crate::floats::Floats;
 use crate::tables::Bits;
 use crate::words::{field, Words, WORDS};
 
@@ -10,7 +11,8 @@ pub const STATE_LEN: usize = 440;
 /// The places of the parts: "pending registers 0..51 at byte 0, active registers 0..51 at byte 208,
 /// frame number at 416, error word at 420, selected at 424 (0: nothing is selected; any other:
 /// something is), selection number at 428, place at 432, profile at 436 (bit 0 set: two bits a
-/// glyph pixel; clear: one; its other bits count for nothing)".
+/// glyph pixel; clear: one; bit 1 set: no float layer is let in; clear: they are; its other bits
+/// count for nothing)".
 pub const PENDING_AT: usize = 0;
 pub const ACTIVE_AT: usize = 208;
 pub const FRAME_AT: usize = 416;
@@ -29,6 +31,7 @@ pub fn read_state(bytes: &[u8]) -> Option<Display> {
     let words = |at: usize| Words(std::array::from_fn(|register| word(at + 4 * register)));
     Some(Display {
         bits: if field(word(PROFILE_AT), 0, 0) == 1 { Bits::Two } else { Bits::One },
+        floats: if field(word(PROFILE_AT), 1, 1) == 1 { Floats::Without } else { Floats::With },
         pending: words(PENDING_AT),
         active: words(ACTIVE_AT),
         frame: word(FRAME_AT),
@@ -41,7 +44,8 @@ pub fn read_state(bytes: &[u8]) -> Option<Display> {
     })
 }
 
-/// The canonical bytes of a state: "the calls write 0 or 1" for selected and for the profile.
+/// The canonical bytes of a state: "the calls write 0 or 1" for selected, and 0 to 3 for the
+/// profile.
 pub fn state_bytes(display: &Display) -> [u8; STATE_LEN] {
     let mut bytes = [0; STATE_LEN];
     let mut store = |at: usize, word: u32| bytes[at..at + 4].copy_from_slice(&word.to_le_bytes());
@@ -54,6 +58,7 @@ pub fn state_bytes(display: &Display) -> [u8; STATE_LEN] {
     store(SELECTED_AT, u32::from(display.selected.is_any));
     store(SELECTION_AT, display.selected.selection);
     store(PLACE_AT, display.selected.place);
-    store(PROFILE_AT, u32::from(display.bits == Bits::Two));
+    let closed = u32::from(display.floats == Floats::Without);
+    store(PROFILE_AT, u32::from(display.bits == Bits::Two) + 2 * closed);
     bytes
 }

@@ -1,7 +1,9 @@
-//! 01 "Registers": the 52 words and their fields, and the checks that a start makes of them.
+//! 01 "Registers": the 52 words and their fields, and the checks that a start makes of them; 02 K7:
+//! layers whose pictures are floats.
 
 use crate::answers::*;
 use crate::fade::Fade;
+use crate::floats::Floats;
 use crate::tables::Kind;
 
 pub const WORDS: usize = 52;
@@ -14,6 +16,12 @@ pub const fn layer_word(n: usize) -> usize {
 
 /// "depth 10:8" of a layer's first word.
 pub const DEPTH_BITS: u32 = 0x700;
+/// "bit 1 graphics"
+pub const GRAPHICS_BIT: u32 = 0b010;
+/// 02 K7: "Bit 2 of a layer's first word now says that its picture comes from a second lent buffer"
+pub const FLOAT_BIT: u32 = 0b100;
+/// Both, of which a layer may have one.
+pub const KIND_BITS: u32 = GRAPHICS_BIT | FLOAT_BIT;
 
 /// The bits that the table of registers names. "Every other bit is reserved."
 pub fn named_bits(register: usize) -> u32 {
@@ -25,7 +33,7 @@ pub fn named_bits(register: usize) -> u32 {
         2 => 0x00FF_FFFF,
         3 => 0xFFFF_FFFF,
         _ => match (register - 4) % 6 {
-            0 => 0x0000_0703,
+            0 => 0x0000_0707,
             1 => 0x8000_00FF,
             2 | 3 => TWO_NUMBERS,
             4 => 0xFFFF_FFFF,
@@ -44,6 +52,8 @@ pub fn field(word: u32, high: u32, low: u32) -> u32 {
 pub struct Layer {
     pub enabled: bool,
     pub graphics: bool,
+    /// A frame layer whose picture is floats.
+    pub float: bool,
     pub depth: u32,
     pub global_alpha: bool,
     pub fade: Fade,
@@ -54,7 +64,7 @@ pub struct Layer {
 }
 
 impl Layer {
-    /// "each 4·width·height bytes"
+    /// "each 4·width·height bytes", and of a float layer as many f32 numbers: "four a pixel"
     pub fn picture_len(&self) -> i64 {
         4 * self.width * self.height
     }
@@ -106,14 +116,16 @@ impl Words {
         field(self.0[3], bit, bit) as usize
     }
 
-    /// "layer n: bit 0 enabled, bit 1 graphics, depth 10:8", then the five words after it.
+    /// "layer n: bit 0 enabled, bit 1 graphics, depth 10:8", then the five words after it. Bit 2
+    /// beside bit 1, which no start lets in, says nothing.
     pub fn layer(&self, n: usize) -> Layer {
         let first = layer_word(n);
         let [kind, alpha, corner, size, start, length] =
             [0, 1, 2, 3, 4, 5].map(|i| self.0[first + i]);
         Layer {
             enabled: field(kind, 0, 0) == 1,
-            graphics: field(kind, 1, 1) == 1,
+            graphics: kind & GRAPHICS_BIT != 0,
+            float: kind & KIND_BITS == FLOAT_BIT,
             depth: field(kind, 10, 8),
             global_alpha: field(alpha, 31, 31) == 1,
             fade: Fade {
@@ -138,8 +150,9 @@ impl Words {
 
     /// "Start 7, 8, then layers 0 to 7 each 9 then 10, then 11." and "Disabled layers are looked at
     /// for 7 only."
-    pub fn check(&self) -> u32 {
-        if (0..WORDS).any(|register| self.0[register] & !named_bits(register) != 0) {
+    pub fn check(&self, floats: Floats) -> u32 {
+        let is_reserved = |register: usize| self.0[register] & !named_bits(register) != 0;
+        if (0..WORDS).any(is_reserved) || (0..LAYERS).any(|n| self.is_no_kind(n, floats)) {
             return RESERVED_BIT;
         }
         if self.width() == 0 || self.height() == 0 {
@@ -162,6 +175,13 @@ impl Words {
         DONE
     }
 
+    /// 02 K7: "7 now for bits 1 and 2 together but no longer for bit 2 alone, save in the host
+    /// entry and the sheet program", in disabled layers too.
+    fn is_no_kind(&self, n: usize, floats: Floats) -> bool {
+        let kind = self.0[layer_word(n)] & KIND_BITS;
+        kind == KIND_BITS || kind == FLOAT_BIT && floats == Floats::Without
+    }
+
     /// "output not 4·width·height bytes"
     pub fn output_len(&self) -> i64 {
         4 * self.width() * self.height()
@@ -178,11 +198,28 @@ impl Words {
         self.picture_start(LAYERS)
     }
 
-    /// Where layer n's picture begins: after those of the enabled frame layers of lower number.
+    /// Where layer n's picture begins: after those of the enabled frame layers of lower number. 02
+    /// K7: "Byte pictures skip such layers."
     pub fn picture_start(&self, n: usize) -> i64 {
+        self.lengths_below(n, |layer| !layer.graphics && !layer.float)
+    }
+
+    /// 02 K7: "a second lent buffer of f32 numbers, four a pixel, in rising layer number like the
+    /// other": how many numbers.
+    pub fn floats_len(&self) -> i64 {
+        self.float_start(LAYERS)
+    }
+
+    /// With which number layer n's floats begin.
+    pub fn float_start(&self, n: usize) -> i64 {
+        self.lengths_below(n, |layer| layer.float)
+    }
+
+    /// The pictures of enabled layers of such a kind and of lower number, together.
+    fn lengths_below(&self, n: usize, is_such: fn(&Layer) -> bool) -> i64 {
         (0..n)
             .map(|lower| self.layer(lower))
-            .filter(|layer| layer.enabled && !layer.graphics)
+            .filter(|layer| layer.enabled && is_such(layer))
             .map(|layer| layer.picture_len())
             .sum()
     }

@@ -2,11 +2,11 @@
 //! same text, byte for byte. After each painting the script has every byte of the output printed.
 //!
 //!   SPOONWING_FIGURES   what runs the program when told its name, ../../tools/run unless set
-//!   SPOONWING_RECORDS   how many generated records to compare, 30,000 unless set
+//!   SPOONWING_RECORDS   how many generated records to compare, 36,000 unless set
 //!   SPOONWING_SEED      compares the script of this one seed only, aloud
 
 use second::beside::{all_seeds, fewer, figures, lines, seed, seeds};
-use second::cases::{gate_script, gen_calls, gen_edges, gen_orders, letter_script};
+use second::cases::{float_script, gate_script, gen_calls, gen_edges, gen_orders, letter_script};
 use second::cases::{EDGES, ORDERS, RECORDS_A_SCRIPT, SCRIPTS, TURNS};
 use second::script::{print_script, script_text, views, Call, Stage, BAND, FRAME, LINE};
 use second::stale::{Fault, Impostor};
@@ -134,13 +134,13 @@ fn letters_that_part(fault: Fault, script: &[Call]) -> BTreeSet<u8> {
 }
 
 /// In most of those scripts each way to paint tells a display that paints by what is not worked out
-/// afresh.
+/// afresh, and one that takes float pictures otherwise (02 K7).
 #[test]
 fn an_order_that_is_not_kept_is_seen() {
     let scripts: Vec<Vec<Call>> = (0..ORDERS).map(|seed| gen_orders(seed, TURNS)).collect();
     let parting = |fault| scripts.iter().flat_map(move |calls| letters_that_part(fault, calls));
     assert_eq!(parting(Fault::None).count(), 0, "the right one is told from ours");
-    for fault in Fault::KEPT {
+    for fault in Fault::KEPT.into_iter().chain(Fault::FLOATS) {
         let letters: Vec<u8> = parting(fault).collect();
         for letter in [BAND, FRAME, LINE] {
             let seen = letters.iter().filter(|&&parts| parts == letter).count();
@@ -156,26 +156,44 @@ fn the_program_prints_the_letters() {
         .unwrap_or_else(|told| panic!("{told}"));
 }
 
-/// Compares with a program that prints other text where ours begins a line so, and asks that this is
-/// seen and that the script is made so small at least.
+#[test]
+fn the_program_prints_the_floats() {
+    compare("the script of floats", &float_script(), &figures)
+        .unwrap_or_else(|told| panic!("{told}"));
+}
+
+/// That script, which the gate's ends with, tells each display that takes float pictures otherwise
+/// by each way to paint.
+#[test]
+fn wrong_floats_are_seen() {
+    let script = float_script();
+    assert_eq!(letters_that_part(Fault::None, &script), BTreeSet::new());
+    for fault in Fault::FLOATS {
+        let ways = BTreeSet::from([BAND, FRAME, LINE]);
+        assert_eq!(letters_that_part(fault, &script), ways, "{fault:?}");
+    }
+}
+
+/// Compares with a program that prints other text where ours begins a line so, and asks that this
+/// is seen and that a script is made so small at least.
 fn catch(ours: &str, theirs: &str, most: usize) {
     let impostor = |script: &[u8]| {
         let printed = String::from_utf8(print_script(script)).expect("letters and digits");
         printed.replace(&format!("\n{ours}"), &format!("\n{theirs}")).into_bytes()
     };
     // Short scripts are soon made small.
-    let caught =
-        (0..50).find_map(|seed| compare("a script", &gen_calls(seed, 200), &impostor).err());
-    let told = caught.expect("the impostor goes unseen");
+    let mut caught =
+        (0..50).filter_map(|seed| compare("a script", &gen_calls(seed, 200), &impostor).err());
+    let is_small =
+        |told: &String| (1..=most).any(|n| told.contains(&format!("differs, of {n} records")));
+    let told = caught.find(is_small).expect("the impostor goes unseen, or its scripts stay large");
     assert!(told.contains(&format!("we print  {ours}")), "{told}");
     assert!(told.contains(&format!("it prints {theirs}")), "{told}");
-    let small = (1..=most).any(|n| told.contains(&format!("differs, of {n} records")));
-    assert!(small, "{told}");
 }
 
 /// The comparison itself, on programs that are known to be wrong: for 10 one answers 9, one counts
-/// a refused write as done, one makes a display of any number of bits, and one asks a line's length
-/// before its number.
+/// a refused write as done, one makes a display of any number of bits, one asks a line's length
+/// before its number, and one answers 14 for floats.
 #[test]
 fn impostors_are_caught_and_their_scripts_made_small() {
     // The update bit, the screen, a layer, its place and its size, a start.
@@ -185,4 +203,6 @@ fn impostors_are_caught_and_their_scripts_made_small() {
     catch("N 11", "N 00", 1);
     // The update bit, the screen, a start, a line.
     catch("Y 0f", "Y 0d", 4);
+    // The same with a few pictures, and all that is lent to a frame.
+    catch("R 12", "R 0e", 15);
 }

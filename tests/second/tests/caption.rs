@@ -6,7 +6,9 @@
 use second::answers::{BANK_FULL, DONE};
 use second::beside::program;
 use second::display::Display;
+use second::floats::Floats;
 use second::host::image_words;
+use second::paint::Pictures;
 use second::state::state_bytes;
 use second::tables::{Bank, Bits, Kind};
 use std::fs;
@@ -35,7 +37,7 @@ fn load(display: &mut Display, given: &[u8]) -> Vec<u8> {
 #[test]
 fn the_kept_display_is_ours() {
     let (theirs, pictures) = (left("output.bin"), left("pictures.bin"));
-    let mut display = Display::fresh(Bits::One);
+    let mut display = Display::fresh(Bits::One, Floats::With);
     let tables = load(&mut display, &left("tables.bin"));
     assert!(tables == left("tables.bin"), "other tables than the caption's are loaded");
     let words = image_words(&left("image.bin")).expect("it is whole");
@@ -49,7 +51,8 @@ fn the_kept_display_is_ours() {
     let filled = ours.clone();
     for (low, high) in [(0, 4), (4, 8)] {
         let before = ours.clone();
-        assert_eq!(display.paint(low, high, &tables, &pictures, &mut ours), DONE);
+        let pictures = Pictures::of_bytes(&pictures);
+        assert_eq!(display.paint(low, high, &tables, pictures, &mut ours), DONE);
         assert!(ours != before, "nothing is seen of the band {low}..{high}");
     }
     assert!(state_bytes(&display)[..] == left("state.bin"), "the example leaves another state");

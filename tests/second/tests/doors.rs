@@ -4,17 +4,19 @@
 //!
 //!   SPOONWING_DISPLAY   the C program, ../../tools/c-display unless set (built by `tools/c-display
 //!                       build`)
-//!   SPOONWING_ROWS      how many generated rows of calls to compare, 500 unless set
+//!   SPOONWING_ROWS      how many generated rows of calls to compare, 600 unless set
 //!   SPOONWING_SEED      compares the row of this one seed only, aloud
 
 use second::answers::*;
 use second::beside::{all_seeds, compare, fewer, seed, seeds, shown, with_fault, Calls, Doors};
-use second::cases::{gen_host, gen_order_row, gen_row, HostCase, ORDERS, ROWS};
+use second::cases::{gen_host, gen_order_row, gen_row, HostCase, Inputs, ORDERS, ROWS};
 use second::doors::*;
+use second::floats::{bytes_of, Floats, FLOAT_LEN};
 use second::host::{host_frame, image_words};
 use second::stale::{Fault, Impostor};
 use second::state::*;
 use second::tables::{Bits, Tables};
+use second::words::{layer_word, Words};
 use std::cell::RefCell;
 use std::collections::BTreeMap;
 
@@ -92,7 +94,7 @@ fn the_calls_answer_the_changes_of_order() {
 }
 
 /// In most of those rows each way to paint tells calls that paint by what is not worked out of the
-/// lent bytes.
+/// lent bytes, and calls that take float pictures otherwise (02 K7).
 #[test]
 fn an_order_that_is_not_kept_is_seen() {
     let rows: Vec<Vec<Step>> = (0..ORDERS).map(gen_order_row).collect();
@@ -112,7 +114,7 @@ fn an_order_that_is_not_kept_is_seen() {
     };
     for way in [Door::Paint, Door::Frame, Door::Line] {
         assert_eq!(seen(Fault::None, way), 0, "the right calls are told from ours");
-        for fault in Fault::KEPT.into_iter().chain(Fault::LENT) {
+        for fault in Fault::KEPT.into_iter().chain(Fault::LENT).chain(Fault::FLOATS) {
             let seen = seen(fault, way);
             println!("{fault:?} is seen by {way:?} in {seen} rows");
             assert!(2 * seen > rows.len(), "{fault:?} is seen by {way:?} in {seen} rows");
@@ -122,26 +124,33 @@ fn an_order_that_is_not_kept_is_seen() {
 
 // ---- alignments and NULL
 
-/// A screen of one column and three lines, shown, with a bank selected that can be put to; and a
-/// run of bytes that are two writes. Selected and profile are not as a call writes them.
-fn one_column(bits: Bits) -> [Step; 2] {
+/// A screen of one column and three lines, shown, with a picture of bytes and over it one of
+/// floats, and with a bank selected that can be put to; and a run of bytes that are two writes.
+/// Selected and profile are not as a call writes them.
+fn one_column(bits: Bits) -> [Step; 4] {
+    const COLUMN: u32 = 0x0003_0001;
+    let (picture, floats) = (layer_word(2), layer_word(5));
+    let layers = [(picture, 0x101), (picture + 3, COLUMN), (floats, 0x305), (floats + 3, COLUMN)];
     let mut state = vec![0; STATE_LEN];
-    for (register, word) in [(0, 0b101_u32), (1, 0x0003_0001)] {
+    for (register, word) in [(0, 0b101), (1, COLUMN)].into_iter().chain(layers) {
         for at in [PENDING_AT, ACTIVE_AT] {
             state[at + 4 * register..][..4].copy_from_slice(&word.to_le_bytes());
         }
     }
     state[SELECTED_AT] = 7;
     state[SELECTION_AT] = 1;
-    state[PROFILE_AT] = 6 | u8::from(bits == Bits::Two);
+    state[PROFILE_AT] = 4 | u8::from(bits == Bits::Two);
     let run = vec![2, 1, 2, 3, 4, 51, 5, 6, 7, 8];
-    [(STATE, state), (RUN, run)].map(|(buffer, bytes)| Step::Store { buffer, bytes })
+    let values = [0.5, 0.25, 0.75, 0.5, 0.1, 0.2, 0.3, 1.0, 1.5, -1.0, f32::NAN, 0.9];
+    let floats = bytes_of(&values.map(f32::to_bits));
+    let stored = [(STATE, state), (PICTURES, (1..=12).collect()), (FLOATS, floats), (RUN, run)];
+    stored.map(|(buffer, bytes)| Step::Store { buffer, bytes })
 }
 
 /// What a call on that state needs.
 fn lent_to(door: Door, bits: Bits) -> [Lent; BUFFERS] {
     let out = if door == Door::Line { 4 } else { 12 };
-    door.lent([STATE_LEN, bits.tables_len(), 0, out, 10, COUNT_LEN])
+    door.lent([STATE_LEN, bits.tables_len(), 12, 12 * FLOAT_LEN, out, 10, COUNT_LEN])
 }
 
 /// Every call on a state of either number of bits.
@@ -165,17 +174,19 @@ fn the_calls_take_null_for_no_bytes() {
         }
         let mut steps = one_column(bits).to_vec();
         steps.push(Step::Call { door, a: 2, b: 8, lent, null: true });
-        let told = compare_row(&calls, &format!("with NULL for {emptied:05b}"), steps);
+        let told = compare_row(&calls, &format!("with NULL for {emptied:06b}"), steps);
         let told = told.unwrap_or_else(|told| panic!("{told}"));
         if !door.is_read() {
             *counts.entry(told[0].answer).or_insert(0) += 1;
         }
     }
-    // For either number of bits half of the 12 times 32 have no state. Of the other half, no output
-    // is refused in 8 fills of 16 and in 8 paintings of each of three kinds, then no tables in 4 of
-    // each kind, in 8 puts and in the 4 of 8 runs of puts that have bytes.
-    let expected = [(DONE, 272), (WRONG_TABLES, 48), (WRONG_OUTPUT, 64), (WRONG_STATE, 384)];
-    assert_eq!(counts, BTreeMap::from(expected));
+    // For either number of bits half of the 12 times 64 have no state. Of the other half, no output
+    // is refused in 16 fills of 32 and in 16 paintings of each of three kinds, then no tables in 8
+    // of each kind, no pictures in 4 and no floats in 2; no tables in 16 puts and in the 8 of 16
+    // runs of puts that have bytes.
+    let refused = [(WRONG_TABLES, 96), (WRONG_OUTPUT, 128), (WRONG_PICTURES, 24)];
+    let others = [(DONE, 508), (WRONG_FLOATS, 12), (WRONG_STATE, 768)];
+    assert_eq!(counts, refused.into_iter().chain(others).collect());
 }
 
 /// Each buffer of each call begins at each place modulo 16 where it may begin.
@@ -199,25 +210,47 @@ fn the_calls_take_every_alignment() {
 
 // ---- a law of painting on damaged states
 
-/// The error word and the output after a whole frame of a host call's scene, on a screen of that
-/// size, whatever size the scene was made for.
-fn frame_of(calls: Calls, case: &HostCase, (width, height): (i64, i64)) -> (Vec<u8>, Vec<u8>) {
+/// A whole frame of a host call's scene, by a row.
+fn row_of(case: &HostCase) -> Vec<Step> {
     let mut state = [&[0; ACTIVE_AT], &case.image[..], &case.frame.to_le_bytes()].concat();
     state.resize(STATE_LEN, 0);
-    let size = (width | height << 16) as u32;
-    state[ACTIVE_AT + 4..ACTIVE_AT + 8].copy_from_slice(&size.to_le_bytes());
     state[PROFILE_AT] = u8::from(Tables::by_length(&case.tables).bits == Bits::Two);
-    let output = 4 * (width * height) as usize;
-    let lengths = [STATE_LEN, case.tables.len(), case.pictures.len(), output, 0, 0];
-    let lent = lengths.map(|length| Lent { length, past: 0 });
-    let mut steps: Vec<Step> =
-        [(STATE, &state), (TABLES, &case.tables), (PICTURES, &case.pictures)]
-            .map(|(buffer, bytes)| Step::Store { buffer, bytes: bytes.clone() })
-            .into();
-    steps.push(Step::Call { door: Door::Frame, a: 0, b: 0, lent, null: false });
+    let (tables, pictures) = (case.tables.len(), case.pictures.len());
+    let lent = Door::Frame.lent([STATE_LEN, tables, pictures, 0, case.output.len(), 0, 0]);
+    let stored = [(STATE, &state), (TABLES, &case.tables), (PICTURES, &case.pictures)];
+    let stores = stored.map(|(buffer, bytes)| Step::Store { buffer, bytes: bytes.clone() });
+    let call = Step::Call { door: Door::Frame, a: 0, b: 0, lent, null: false };
+    stores.into_iter().chain([call]).collect()
+}
+
+/// The error word and the output after the frame of a row, on a screen of that size, whatever size
+/// the row was made for.
+fn frame_of(calls: Calls, row: &[Step], (width, height): (i64, i64)) -> (Vec<u8>, Vec<u8>) {
+    let mut steps = row.to_vec();
+    for step in &mut steps {
+        match step {
+            Step::Store { buffer: STATE, bytes } => {
+                let size = (width | height << 16) as u32;
+                bytes[ACTIVE_AT + 4..ACTIVE_AT + 8].copy_from_slice(&size.to_le_bytes());
+            }
+            Step::Call { lent, .. } => lent[OUTPUT].length = 4 * (width * height) as usize,
+            _ => {}
+        }
+    }
     let told = calls(&steps).pop().expect("it is a call");
     assert_eq!(told.answer, DONE, "{width} x {height}");
     (told.state[ERRORS_AT..SELECTED_AT].to_vec(), told.out)
+}
+
+/// Whether the frame of a row on a smaller screen is the part of its frame that lies there.
+fn is_cut(calls: Calls, row: &[Step], words: &Words) -> bool {
+    let (width, height) = (words.width(), words.height());
+    let (columns, rows) = ((width + 1) / 2, (2 * height + 2) / 3);
+    let (errors, whole) = frame_of(calls, row, (width, height));
+    let (cut_errors, cut) = frame_of(calls, row, (columns, rows));
+    let lines = whole.chunks(4 * width as usize).take(rows as usize);
+    let part = lines.flat_map(|line| &line[..4 * columns as usize]).copied();
+    cut == part.collect::<Vec<u8>>() && cut_errors == errors
 }
 
 /// A layer is painted where it lies on the screen, also where no start would let it stand: where
@@ -234,17 +267,25 @@ fn a_cut_screen_has_a_cut_frame() {
             continue;
         }
         let words = image_words(image).expect("it is whole");
-        let (width, height) = (words.width(), words.height());
-        let (columns, rows) = ((width + 1) / 2, (2 * height + 2) / 3);
-        let (errors, whole) = frame_of(&calls, &case, (width, height));
-        let (cut_errors, cut) = frame_of(&calls, &case, (columns, rows));
-        let lines = whole.chunks(4 * width as usize).take(rows as usize);
-        let part = lines.flat_map(|line| &line[..4 * columns as usize]).copied();
-        assert!(cut == part.collect::<Vec<u8>>(), "seed {seed}: it is no part of the whole frame");
-        assert_eq!(cut_errors, errors, "seed {seed}");
+        assert!(is_cut(&calls, &row_of(&case), &words), "seed {seed}: it is no part of the frame");
         frames[Tables::by_length(tables).bits.number() - 1] += 1;
     }
     assert!(frames.iter().all(|&count| count > 100), "only {frames:?} frames are cut");
+}
+
+/// So it is where some of the layers have pictures of floats (02 K7).
+#[test]
+fn a_cut_screen_has_a_cut_frame_of_floats() {
+    let doors = RefCell::new(Doors::start());
+    let calls = |steps: &[Step]| doors.borrow_mut().row(steps);
+    let mut frames = 0;
+    for seed in 0..300 {
+        let inputs = Inputs::gen(seed, 1, Floats::With);
+        let is_there = is_cut(&calls, &inputs.row(), &inputs.words);
+        assert!(is_there, "seed {seed}: it is no part of the frame");
+        frames += u32::from(inputs.words.floats_len() > 0);
+    }
+    assert!(frames > 100, "only {frames} frames have floats");
 }
 
 /// The frame number stands still on a refused start.
@@ -293,5 +334,25 @@ fn impostors_are_caught_and_their_rows_made_small() {
         let told = caught.expect("the impostor goes unseen");
         let small = (1..=most).any(|n| told.contains(&format!("differs, of {n} steps")));
         assert!(told.contains(said) && small, "{told}");
+    }
+}
+
+/// And on calls that take float pictures otherwise (02 K7): the rows tell each of them, and none
+/// from the right ones.
+#[test]
+fn wrong_floats_are_caught_and_their_rows_made_small() {
+    let row = |fault: Fault| move |steps: &[Step]| Impostor::new(fault).row(steps);
+    for seed in 0..50 {
+        compare_row(&row(Fault::None), &format!("seed {seed}"), gen_row(seed))
+            .unwrap_or_else(|told| panic!("{told}"));
+    }
+    for fault in Fault::FLOATS {
+        let calls = row(fault);
+        let caught = (0..50).find_map(|seed| compare_row(&calls, "a row", gen_row(seed)).err());
+        let told = caught.unwrap_or_else(|| panic!("{fault:?} goes unseen"));
+        println!("{fault:?}: {told}");
+        // A state or its writes, pictures and the painting.
+        let small = (1..=12).any(|n| told.contains(&format!("differs, of {n} steps")));
+        assert!(small, "{fault:?}: {told}");
     }
 }

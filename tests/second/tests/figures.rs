@@ -1,14 +1,17 @@
 //! 01 "Bench figures", starred and unstarred, the worked sheet line, 01 "Errors we have met in such
-//! displays", and the numbers of 02 K2.
+//! displays", and the numbers of 02 K2 and K7.
 
 use second::answers::*;
 use second::display::Display;
 use second::draw::{Letters, List};
 use second::fade::Fade;
-use second::paint::blend;
+use second::floats::{byte_of, Floats};
+use second::host::host_frame;
+use second::paint::{blend, Pictures};
 use second::sheet::print_sheet;
+use second::state::{read_state, state_bytes, PROFILE_AT};
 use second::tables::{Bank, Bits, Kind};
-use second::words::layer_word;
+use second::words::{layer_word, FLOAT_BIT, GRAPHICS_BIT, KIND_BITS, LAYERS};
 
 /// "Blend (a, over, under)"
 #[test]
@@ -60,23 +63,28 @@ fn box_figures() {
 
 /// A display with a screen of that size whose update bit and display bit are pending.
 fn display(width: u32, height: u32) -> Display {
-    let mut display = Display::fresh(Bits::One);
+    let mut display = Display::fresh(Bits::One, Floats::With);
     display.write(0, 0b101);
     display.write(1, width | height << 16);
     display
 }
 
+/// A frame layer with a picture of bytes.
+const PICTURE: u32 = 0;
+
+static TABLES: [u8; Bits::One.tables_len()] = [0; Bits::One.tables_len()];
+
 /// Makes an enabled layer pending.
 fn write_layer(
     display: &mut Display,
     n: usize,
-    graphics: bool,
+    kind: u32,
     depth: u32,
     at: (u32, u32),
     size: (u32, u32),
 ) {
     let first = layer_word(n) as u32;
-    display.write(first, 1 | u32::from(graphics) << 1 | depth << 8);
+    display.write(first, 1 | kind | depth << 8);
     display.write(first + 2, at.0 | at.1 << 16);
     display.write(first + 3, size.0 | size.1 << 16);
 }
@@ -86,7 +94,7 @@ fn write_layer(
 fn edge_figures() {
     for (width, answer) in [(20, DONE), (21, LAYER_OUTSIDE)] {
         let mut display = display(1920, 1080);
-        write_layer(&mut display, 0, true, 0, (1900, 0), (width, 1));
+        write_layer(&mut display, 0, GRAPHICS_BIT, 0, (1900, 0), (width, 1));
         assert_eq!(display.start(), answer, "width {width}");
     }
 }
@@ -96,14 +104,12 @@ fn edge_figures() {
 fn picture_figures() {
     for (length, answer) in [(28, DONE), (27, WRONG_PICTURES), (29, WRONG_PICTURES)] {
         let mut display = display(4, 4);
-        write_layer(&mut display, 2, false, 0, (0, 0), (3, 2));
-        write_layer(&mut display, 5, false, 1, (3, 3), (1, 1));
+        write_layer(&mut display, 2, PICTURE, 0, (0, 0), (3, 2));
+        write_layer(&mut display, 5, PICTURE, 1, (3, 3), (1, 1));
         assert_eq!(display.start(), DONE);
-        assert_eq!(
-            display.frame(&[0; Bits::One.tables_len()], &vec![0; length], &mut [0; 64]),
-            answer,
-            "{length} bytes"
-        );
+        let pictures = vec![0; length];
+        let pictures = Pictures::of_bytes(&pictures);
+        assert_eq!(display.frame(&TABLES, pictures, &mut [0; 64]), answer, "{length} bytes");
     }
 }
 
@@ -111,7 +117,7 @@ fn picture_figures() {
 /// error met before.
 #[test]
 fn toggle_figures() {
-    let mut display = Display::fresh(Bits::One);
+    let mut display = Display::fresh(Bits::One, Floats::With);
     display.toggle(0x11);
     display.toggle(0x10);
     assert_eq!(display.errors(), 0x01);
@@ -147,13 +153,13 @@ fn refused_start_steps() {
 fn depth_and_order() {
     let mut display = display(1, 1);
     display.write(2, 200);
-    write_layer(&mut display, 0, false, 7, (0, 0), (1, 1));
-    write_layer(&mut display, 1, false, 0, (0, 0), (1, 1));
+    write_layer(&mut display, 0, PICTURE, 7, (0, 0), (1, 1));
+    write_layer(&mut display, 1, PICTURE, 0, (0, 0), (1, 1));
     assert_eq!(display.start(), DONE);
     let mut out = [0; 4];
-    let tables = [0; Bits::One.tables_len()];
     // Layer 0 is 9, half seen; layer 1 is 101, half seen.
-    assert_eq!(display.frame(&tables, &[9, 0, 0, 128, 101, 0, 0, 128], &mut out), DONE);
+    let pictures = Pictures::of_bytes(&[9, 0, 0, 128, 101, 0, 0, 128]);
+    assert_eq!(display.frame(&TABLES, pictures, &mut out), DONE);
     let lower = (128 * 101 + 127 * 200 + 127) / 255;
     assert_eq!(out, [((128 * 9 + 127 * lower + 127) / 255) as u8, 0, 0, 255]);
 }
@@ -217,11 +223,158 @@ fn values_of_a_glyph() {
 /// "17 for a bit number other than 1 or 2 when making a state, handing back a fresh one-bit state".
 #[test]
 fn bits_of_a_state() {
-    for bits in Bits::ALL {
-        assert_eq!(Display::new(bits.number() as u32), (DONE, Display::fresh(bits)));
-        assert_eq!(Display::fresh(bits).bits(), bits);
+    for floats in [Floats::With, Floats::Without] {
+        for bits in Bits::ALL {
+            let fresh = Display::fresh(bits, floats);
+            assert_eq!((fresh.bits(), fresh.floats()), (bits, floats));
+            assert_eq!(Display::new(bits.number() as u32, floats), (DONE, fresh));
+        }
+        for wrong in [0, 3, 4, 0x101, 0x102, 1 << 31, u32::MAX] {
+            let fresh = Display::fresh(Bits::One, floats);
+            assert_eq!(Display::new(wrong, floats), (WRONG_BITS, fresh));
+        }
     }
-    for wrong in [0, 3, 4, 0x101, 0x102, 1 << 31, u32::MAX] {
-        assert_eq!(Display::new(wrong), (WRONG_BITS, Display::fresh(Bits::One)));
+}
+
+// ---- 02 K7
+
+/// "A value that is not a number, or is at most 0, becomes 0; at least 1 becomes 255; any other
+/// becomes the whole number nearest to 255 times its exact value, halves upward, so 0.5 gives 128."
+#[test]
+fn bytes_of_floats() {
+    let figures = [
+        (0.5, 128),
+        (0.0, 0),
+        (-0.0, 0),
+        (-0.5, 0),
+        (-1.0, 0),
+        (f32::NEG_INFINITY, 0),
+        (f32::MIN_POSITIVE, 0),
+        // 255 times these: 63.75, 191.25, 0.498.., 0.996.., 254.003.., 254.498.., 254.999..
+        (0.25, 64),
+        (0.75, 191),
+        (1.0 / 512.0, 0),
+        (1.0 / 256.0, 1),
+        (255.0 / 256.0, 254),
+        (511.0 / 512.0, 255),
+        (0.999_999_94, 255),
+        (1.0, 255),
+        (1.5, 255),
+        (f32::MAX, 255),
+        (f32::INFINITY, 255),
+    ];
+    for (value, byte) in figures {
+        assert_eq!(byte_of(f32::to_bits(value)), byte, "{value:?}");
     }
+    for none in [0x7F80_0001, 0x7FC0_0000, 0x7FFF_FFFF, 0xFF80_0001, 0xFFC0_0000, u32::MAX] {
+        assert_eq!(byte_of(none), 0, "{none:08X}");
+    }
+}
+
+/// `include/spoonwing.h`, "storing a state": bit 0 at 436 for two bits, bit 1 where float layers are
+/// not let in, and no other counts.
+#[test]
+fn profile_of_a_state() {
+    let profiles = [
+        (Bits::One, Floats::With, 0),
+        (Bits::Two, Floats::With, 1),
+        (Bits::One, Floats::Without, 2),
+        (Bits::Two, Floats::Without, 3),
+    ];
+    for (bits, floats, profile) in profiles {
+        let display = Display::fresh(bits, floats);
+        let mut bytes = state_bytes(&display);
+        assert_eq!(bytes[PROFILE_AT..], [profile, 0, 0, 0]);
+        bytes[PROFILE_AT..].copy_from_slice(&[0xFC | profile, 0xFF, 0xFF, 0xFF]);
+        assert_eq!(read_state(&bytes), Some(display));
+    }
+}
+
+/// A float layer of 3 by 2 pixels between pictures of 1 by 1 and of 1 by 2: 24 numbers and 12
+/// bytes.
+fn float_display() -> Display {
+    let mut display = display(4, 4);
+    write_layer(&mut display, 2, PICTURE, 0, (0, 0), (1, 1));
+    write_layer(&mut display, 3, FLOAT_BIT, 5, (1, 1), (3, 2));
+    write_layer(&mut display, 6, PICTURE, 3, (0, 2), (1, 2));
+    assert_eq!(display.start(), DONE);
+    display
+}
+
+/// "18 for a float buffer of the wrong total length, after 14", which counts numbers.
+#[test]
+fn lengths_of_floats() {
+    let cases = [
+        (12, 24, DONE),
+        (12, 23, WRONG_FLOATS),
+        (12, 25, WRONG_FLOATS),
+        (12, 0, WRONG_FLOATS),
+        (12, 96, WRONG_FLOATS),
+        (12, 6, WRONG_FLOATS),
+        (11, 23, WRONG_PICTURES),
+        (36, 24, WRONG_PICTURES),
+    ];
+    for (bytes, floats, answer) in cases {
+        let mut display = float_display();
+        let (bytes, floats) = (vec![7; bytes], vec![0; floats]);
+        let pictures = Pictures { bytes: &bytes, floats: &floats };
+        let before = display.clone();
+        let [mut frame, mut line] = [vec![9; 64], vec![9; 16]];
+        assert_eq!(display.paint(3, 3, &TABLES, pictures, &mut frame), answer);
+        assert_eq!(display.frame(&TABLES, pictures, &mut frame), answer);
+        assert_eq!(display.line(2, &TABLES, pictures, &mut line), answer);
+        if answer != DONE {
+            assert!(frame == [9; 64] && line == [9; 16] && display == before, "all unchanged");
+        }
+    }
+}
+
+/// "four values, red, green, blue and alpha", and "Byte pictures skip such layers."
+#[test]
+fn a_float_layer_is_painted_by_its_bytes() {
+    let mut display = float_display();
+    let bytes = [10, 11, 12, 255, 20, 21, 22, 255, 30, 31, 32, 255];
+    let mut values = [0.0_f32; 24];
+    // The pixel at (3, 1) of the screen, opaque, and the one at (1, 2), half seen.
+    values[8..12].copy_from_slice(&[0.25, 0.5, 0.75, 1.0]);
+    values[12..16].copy_from_slice(&[1.0, 1.0, 0.0, 0.5]);
+    let floats = values.map(f32::to_bits);
+    let mut out = [0; 64];
+    let pictures = Pictures { bytes: &bytes, floats: &floats };
+    assert_eq!(display.frame(&TABLES, pictures, &mut out), DONE);
+    let mut expected = [[0, 0, 0, 255]; 16];
+    expected[0] = [10, 11, 12, 255];
+    expected[4 + 3] = [64, 128, 191, 255];
+    expected[8] = [20, 21, 22, 255];
+    expected[8 + 1] = [128, 128, 0, 255];
+    expected[12] = [30, 31, 32, 255];
+    assert_eq!(out[..], expected.concat()[..]);
+}
+
+/// "7 now for bits 1 and 2 together but no longer for bit 2 alone, save in the host entry and the
+/// sheet program", whether the layer is on or off.
+#[test]
+fn kinds_of_a_layer() {
+    for (n, on) in (0..LAYERS).flat_map(|n| [(n, 0), (n, 1)]) {
+        let answers = [
+            (0, [DONE; 2]),
+            (GRAPHICS_BIT, [DONE; 2]),
+            (FLOAT_BIT, [DONE, RESERVED_BIT]),
+            (KIND_BITS, [RESERVED_BIT; 2]),
+        ];
+        for (kind, answers) in answers {
+            let mut display = display(1, 1);
+            write_layer(&mut display, n, kind, 0, (0, 0), (1, 1));
+            display.write(layer_word(n) as u32, kind | on);
+            let words = display.pending().clone();
+            assert_eq!([Floats::With, Floats::Without].map(|floats| words.check(floats)), answers);
+            assert_eq!(display.start(), answers[0]);
+            let image: Vec<u8> = words.0.into_iter().flat_map(u32::to_le_bytes).collect();
+            let pictures = vec![0; words.pictures_len() as usize];
+            assert_eq!(host_frame(&image, 0, &TABLES, &pictures, &mut [0; 4]), answers[1]);
+        }
+    }
+    // The screen of one pixel, and layer 0 as a float layer that is off; then as one that is none.
+    let sheet = b"00030000000005010001000104000000040000\n000104000000000000\n";
+    assert_eq!(print_sheet(sheet), b"07\n000000000000010001000000FF\n");
 }

@@ -6,7 +6,9 @@
 use second::answers::DONE;
 use second::beside::{picture, program};
 use second::display::Display;
+use second::floats::Floats;
 use second::host::image_words;
+use second::paint::Pictures;
 use second::state::{read_state, state_bytes};
 use std::fs;
 
@@ -20,7 +22,7 @@ fn left(name: &str) -> Vec<u8> {
 fn made_here() -> (Display, Vec<u8>) {
     let theirs = read_state(&left("state.bin")).expect("it is whole");
     let words = image_words(&left("image.bin")).expect("it is whole");
-    let mut display = Display::fresh(theirs.bits());
+    let mut display = Display::fresh(theirs.bits(), Floats::With);
     for (register, word) in (0..).zip(words.0) {
         assert_eq!(display.write(register, word), DONE);
     }
@@ -29,7 +31,9 @@ fn made_here() -> (Display, Vec<u8>) {
     }
     // What the output held does not count, so ours does not begin as the example's zeros do.
     let mut out = vec![0xA5; words.output_len() as usize];
-    assert_eq!(display.frame(&left("tables.bin"), &left("pictures.bin"), &mut out), DONE);
+    let pictures = left("pictures.bin");
+    let pictures = Pictures::of_bytes(&pictures);
+    assert_eq!(display.frame(&left("tables.bin"), pictures, &mut out), DONE);
     (display, out)
 }
 

@@ -1,10 +1,11 @@
-//! Laws that follow from documents 01 and 02, tried on all blends, on the fades' edges and on
-//! scripts of calls.
+//! Laws that follow from documents 01 and 02, tried on all blends, on the fades' edges, on floats
+//! of every kind and on scripts of calls.
 
 use second::answers::*;
-use second::cases::gen_calls;
+use second::cases::{all_series, gen_as_bytes, gen_calls, gen_invisible, Inputs, Series};
 use second::display::Display;
 use second::fade::Fade;
+use second::floats::{byte_of, Floats};
 use second::paint::blend;
 use second::script::{Call, Stage, BAND, CALLS, FILL, FRAME, LINE, PUT, PUT_RUN, WRITE_RUN};
 use second::tables::Bits;
@@ -137,6 +138,80 @@ fn fade_is_another_formula() {
     }
 }
 
+// ---- floats
+
+/// The rule of 02 K7 once more, in f64: 255 times an f32 needs 32 of its 53 bits, and a half more
+/// takes none away where it counts.
+fn byte_again(bits: u32) -> u8 {
+    let value = f64::from(f32::from_bits(bits));
+    match value {
+        _ if value.is_nan() || value <= 0.0 => 0,
+        _ if value >= 1.0 => 255,
+        _ => (255.0 * value + 0.5).floor() as u8,
+    }
+}
+
+#[test]
+fn a_byte_is_another_formula() {
+    for bits in all_series().into_iter().flat_map(Series::bits) {
+        assert_eq!(byte_of(bits), byte_again(bits), "{bits:08X}");
+    }
+}
+
+/// "the whole number nearest to 255 times its exact value, halves upward": with the fraction whole
+/// / 2^power, 510·whole lies from 2·byte − 1 on and below 2·byte + 1, both times 2^power.
+#[test]
+fn a_byte_is_the_nearest() {
+    let exponents = 64..127;
+    for bits in all_series().into_iter().flat_map(Series::bits) {
+        if exponents.contains(&(bits >> 23)) {
+            let (whole, power) = (i128::from(bits & 0x7F_FFFF | 1 << 23), 150 - (bits >> 23));
+            let (value, byte) = (510 * whole, i128::from(byte_of(bits)));
+            let is_nearest = (2 * byte - 1) << power <= value && value < (2 * byte + 1) << power;
+            assert!(is_nearest, "{bits:08X} is {byte}");
+        }
+    }
+}
+
+/// A greater number has no smaller byte; what has no sign goes up with its bits.
+#[test]
+fn bytes_go_up() {
+    let mut all: Vec<u32> = all_series().into_iter().flat_map(Series::bits).collect();
+    all.retain(|&bits| bits <= f32::INFINITY.to_bits());
+    all.sort();
+    assert!(all.windows(2).all(|two| byte_of(two[0]) <= byte_of(two[1])));
+    assert!((0..=255).all(|byte| all.iter().any(|&bits| byte_of(bits) == byte)));
+}
+
+/// 02 K7: "Demands 2 and 3 read a float layer by these bytes."
+#[test]
+fn a_float_layer_is_its_bytes() {
+    for seed in 0..300 {
+        let pair = gen_as_bytes(seed);
+        assert!(pair.one.under(8) == pair.other.under(8), "seed {seed}");
+    }
+}
+
+/// A float layer that is withdrawn takes its floats along and leaves the bytes as they are.
+#[test]
+fn a_clear_layer_takes_its_floats_along() {
+    let mut layers = 0;
+    for seed in 0..600 {
+        let pair = gen_invisible(seed, Floats::With);
+        let lengths = |inputs: &Inputs| [inputs.words.pictures_len(), inputs.words.floats_len()];
+        let layer = pair.one.words.layer(pair.layer);
+        let [bytes, floats] = lengths(&pair.one);
+        assert!(pair.one.under(8) == pair.other.under(8), "seed {seed}");
+        if layer.float {
+            assert_eq!(lengths(&pair.other), [bytes, floats - layer.picture_len()], "seed {seed}");
+            layers += 1;
+        }
+    }
+    assert!(layers > 100, "only {layers} float layers are withdrawn");
+}
+
+// ---- calls
+
 /// Plays scripts and shows each call with the stage before it, its answer and the stage after it. A
 /// record of several puts or paintings is several calls, and so is a run; these are not shown.
 fn each_call(mut look: impl FnMut(&Stage, Call, u32, &Stage)) {
@@ -265,7 +340,7 @@ fn toggles_add_up() {
     let words = [0, 1, 0x10, 0x11, 0x8000_0000, 0x7FFF_FFFF, u32::MAX];
     for first in words {
         for second in words {
-            let mut twice = Display::fresh(Bits::One);
+            let mut twice = Display::fresh(Bits::One, Floats::With);
             assert_eq!((twice.toggle(first), twice.toggle(second)), (DONE, DONE));
             assert_eq!(twice.errors(), first ^ second);
         }

@@ -8,7 +8,9 @@ use second::beside::{picture, program};
 use second::cases::write_bytes;
 use second::display::Display;
 use second::draw::{Letters, List};
+use second::floats::Floats;
 use second::host::image_words;
+use second::paint::Pictures;
 use second::state::state_bytes;
 use second::tables::{Bank, Bits, Kind, Tables};
 use second::words::{Words, WORDS};
@@ -28,7 +30,7 @@ fn image(bits: Bits) -> Words {
 
 /// The same calls, with the same tables and registers: the tables, the display and the frame.
 fn made_here(bits: Bits) -> (Vec<u8>, Display, Vec<u8>) {
-    let (answer, mut display) = Display::new(bits.number() as u32);
+    let (answer, mut display) = Display::new(bits.number() as u32, Floats::With);
     assert_eq!(answer, DONE);
     let given = left("tables", bits);
     let given = Tables { bits, bytes: &given };
@@ -42,7 +44,7 @@ fn made_here(bits: Bits) -> (Vec<u8>, Display, Vec<u8>) {
     assert_eq!(display.start(), DONE);
     // What the output held does not count, so ours does not begin as the example's zeros do.
     let mut out = vec![0xA5; image(bits).output_len() as usize];
-    assert_eq!(display.frame(&tables, &[], &mut out), DONE);
+    assert_eq!(display.frame(&tables, Pictures::of_bytes(&[]), &mut out), DONE);
     (tables, display, out)
 }
 

@@ -10,13 +10,15 @@ use second::beside::{all_seeds, compare, try_all, with_fault, Calls, Doors};
 use second::cases::{drawing_lines, gen_faulty_line, gen_lines, FaultyLine, LinesCase, FAULT_SETS};
 use second::display::Display;
 use second::doors::*;
+use second::floats::Floats;
+use second::stale::{Fault, Impostor};
 use second::state::{read_state, state_bytes, ERRORS_AT, SELECTED_AT, STATE_LEN};
 use second::tables::{Bank, Bits, Kind, INSTRUCTIONS, INSTRUCTION_LEN};
 use second::words::{layer_word, LAYERS};
 use std::cell::RefCell;
 
 const CASES: u64 = 400;
-const FAULTY: u64 = 16 * FAULT_SETS;
+const FAULTY: u64 = 8 * FAULT_SETS;
 
 // ---- lines are the frame
 
@@ -88,6 +90,9 @@ fn names(case: &LinesCase, told: &[Told]) -> Vec<(String, usize)> {
         lines.iter().filter(|&&y| marked.iter().any(|n| is_so(n, y))).count()
     };
     let bits = case.display.bits();
+    let floats: Vec<usize> =
+        active.order().into_iter().filter(|&n| active.layer(n).float).collect();
+    let is_on_floats = |y: u32| floats.iter().any(|&n| active.layer(n).is_on(y.into()));
     let so = [
         ("with one bit", usize::from(bits == Bits::One)),
         ("with two bits", usize::from(bits == Bits::Two)),
@@ -98,6 +103,8 @@ fn names(case: &LinesCase, told: &[Told]) -> Vec<(String, usize)> {
         ("lines above the one before", lines.windows(2).filter(|pair| pair[1] < pair[0]).count()),
         ("lines on a list without END", with_bit(true)),
         ("lines off a list without END", with_bit(false)),
+        ("lines on a float layer", lines.iter().filter(|&&y| is_on_floats(y)).count()),
+        ("with several float layers", usize::from(floats.len() > 1)),
     ];
     so.map(|(name, count)| (name.into(), count)).into()
 }
@@ -115,6 +122,8 @@ fn the_lines_are_the_frame() {
         ("lines above the one before", 700),
         ("lines on a list without END", 300),
         ("lines off a list without END", 300),
+        ("lines on a float layer", 300),
+        ("with several float layers", 50),
     ];
     try_all(CASES, &least, |seed| {
         let case = gen_lines(seed);
@@ -139,7 +148,7 @@ fn the_drawings_are_the_frame() {
 
 /// A screen of nine lines with a list on each of the first eight, layer n's on line n.
 fn eight_lists(bits: Bits, is_on: bool) -> Display {
-    let mut display = Display::fresh(bits);
+    let mut display = Display::fresh(bits, Floats::With);
     let layer = |n: u32| {
         let words = [(0, 0b11 | n << 8), (2, n << 16), (3, 3 | 1 << 16)];
         words.map(|(i, word)| (layer_word(n as usize) as u32 + i, word))
@@ -170,7 +179,7 @@ fn list_tables(bits: Bits, without: u32) -> Vec<u8> {
 /// The error words after each of the nine lines, each painted from the same state on.
 fn error_words(calls: Calls, display: &Display, tables: &[u8]) -> Vec<u32> {
     let store = |buffer, bytes: &[u8]| Step::Store { buffer, bytes: bytes.to_vec() };
-    let lent = Door::Line.lent([STATE_LEN, tables.len(), 0, 12, 0, 0]);
+    let lent = Door::Line.lent([STATE_LEN, tables.len(), 0, 0, 12, 0, 0]);
     let line = |y| {
         let call = Step::Call { door: Door::Line, a: y, b: 0, lent, null: false };
         [store(STATE, &state_bytes(display)), call]
@@ -209,11 +218,11 @@ fn each_line_sets_all_bits() {
 // ---- refusals
 
 /// "Refusals in order: 12, 15 for a line number at or past the height, 13 against 4·width, 6, 14.",
-/// and a state of a wrong length before all. A refusal leaves all unchanged.
+/// 18 "after 14", and a state of a wrong length before all. A refusal leaves all unchanged.
 fn in_order(case: &FaultyLine, told: &[Told]) -> Result<(), String> {
-    let order =
-        [WRONG_STATE, NOTHING_ACTIVE, WRONG_BAND, WRONG_OUTPUT, WRONG_TABLES, WRONG_PICTURES];
-    let first = order.into_iter().find(|answer| case.faults.contains(answer)).unwrap_or(DONE);
+    let buffers = [WRONG_OUTPUT, WRONG_TABLES, WRONG_PICTURES, WRONG_FLOATS];
+    let mut order = [WRONG_STATE, NOTHING_ACTIVE, WRONG_BAND].into_iter().chain(buffers);
+    let first = order.find(|answer| case.faults.contains(answer)).unwrap_or(DONE);
     let told = told.first().ok_or("the program ends")?;
     if told.answer != first {
         return Err(format!("of {:?} it answers {}", case.faults, told.answer));
@@ -289,7 +298,8 @@ fn impostors_are_caught() {
     assert!(all_bits(&silent).is_err());
 }
 
-/// And on calls that ask for 13 before 15, or write to the output though they are refused.
+/// And on calls that ask for 13 before 15, for 18 before 14, or write to the output though they are
+/// refused.
 #[test]
 fn wrong_refusals_are_caught() {
     let hasty = with_fault(|door, _, told| {
@@ -303,8 +313,27 @@ fn wrong_refusals_are_caught() {
             told.out.fill(0);
         }
     });
-    for impostor in [&hasty as Calls, &untidy] {
+    let rash = |steps: &[Step]| Impostor::new(Fault::FloatsFirst).row(steps);
+    for impostor in [&hasty as Calls, &rash, &untidy] {
         let is_caught = |case: FaultyLine| in_order(&case, &impostor(&case.steps)).is_err();
         assert!((0..FAULT_SETS).map(gen_faulty_line).any(is_caught));
+    }
+}
+
+/// The comparison of all lines, on displays that take float pictures otherwise (02 K7). The right
+/// one has to go unseen.
+#[test]
+fn wrong_floats_are_seen() {
+    let cases: Vec<LinesCase> = (0..100).map(gen_lines).collect();
+    let seen = |fault: Fault| {
+        let calls = |steps: &[Step]| Impostor::new(fault).row(steps);
+        cases.iter().filter(|case| compare(&calls, &case.steps).is_err()).count()
+    };
+    assert_eq!(seen(Fault::None), 0);
+    // Here all lengths are right.
+    for fault in Fault::FLOATS.into_iter().filter(|&fault| fault != Fault::FloatsFirst) {
+        let seen = seen(fault);
+        println!("{fault:?} is seen in {seen} of {}", cases.len());
+        assert!(seen > 20, "{fault:?} is seen in {seen} of {}", cases.len());
     }
 }

@@ -1,18 +1,24 @@
 //! The laws of painting on the built programs: the host entry paints the inputs that a law speaks
-//! of, and the figures program does the calls that are to be one. Nothing is compared with what
-//! this display paints; it only says where a law applies. A case that fails is told with its seed.
+//! of, a frame call from C those with float layers too, and the figures program does the calls that
+//! are to be one. Nothing is compared with what this display paints; it only says where a law
+//! applies, and which bytes floats become. A case that fails is told with its seed.
 //!
 //!   SPOONWING_HOST      the C host, ../../tools/c-host unless set
+//!   SPOONWING_DISPLAY   the C program, ../../tools/c-display unless set
 //!   SPOONWING_FIGURES   what runs the figures program, ../../tools/run unless set
 //!   SPOONWING_SEED      tries the cases of this one seed only
 
-use second::beside::{all_seeds, figures, lines, try_all, Host, Tried};
-use second::cases::{gen_exchange, gen_invisible, gen_one_value, gen_opaque, gen_split};
-use second::cases::{with_lines, HostCase, Inputs, Pair};
+use second::beside::{all_seeds, figures, last_output, lines, try_all, Doors, Host, Tried};
+use second::cases::{gen_as_bytes, gen_exchange, gen_invisible, gen_one_value, gen_opaque};
+use second::cases::{gen_split, with_lines, HostCase, Inputs, Pair};
+use second::doors::Step;
+use second::floats::Floats;
 use second::host::host_frame;
-use second::paint::{band, blend, fill};
+use second::paint::blend;
 use second::script::*;
+use second::stale::{Fault, Impostor};
 use second::tables::Bits;
+use std::cell::RefCell;
 use std::collections::BTreeSet;
 use std::ops::RangeInclusive;
 
@@ -50,8 +56,8 @@ fn places(inputs: &Inputs, n: usize) -> BTreeSet<usize> {
 }
 
 /// "two layers next to each other in depth that share no pixel may exchange depths"
-fn exchange(painted: Painter, seed: u64) -> Tried {
-    let pair = gen_exchange(seed);
+fn exchange(painted: Painter, seed: u64, floats: Floats) -> Tried {
+    let pair = gen_exchange(seed, floats);
     let (before, after) = (pair.one.words.order(), pair.other.words.order());
     let i = before.iter().position(|&n| n == pair.layer).expect("it is a layer");
     let mut swapped = before.clone();
@@ -64,19 +70,10 @@ fn exchange(painted: Painter, seed: u64) -> Tried {
     Ok(counted(&pair, &[]))
 }
 
-/// What the layers under a depth leave.
-fn under(inputs: &Inputs, depth: u32) -> Vec<u8> {
-    let Inputs { words, frame, pictures, .. } = inputs;
-    let mut out = vec![0; words.output_len() as usize];
-    fill(words, &mut out);
-    band(words, *frame, 0, depth, inputs.lent_tables(), &pictures.concat(), &mut out);
-    out
-}
-
 /// "where a layer's alpha comes to 255, neither the background nor the pixels and alphas of layers
 /// under it count"
-fn opaque(painted: Painter, seed: u64) -> Tried {
-    let pair = gen_opaque(seed);
+fn opaque(painted: Painter, seed: u64, floats: Floats) -> Tried {
+    let pair = gen_opaque(seed, floats);
     let depth = pair.one.words.layer(pair.layer).depth;
     let from = |inputs: &Inputs| {
         let layers = inputs.words.order().into_iter();
@@ -88,14 +85,14 @@ fn opaque(painted: Painter, seed: u64) -> Tried {
     let full: Vec<usize> = full.map(|pixel| pixel.at).collect();
     let (one, other) = (painted(&pair.one)?, painted(&pair.other)?);
     alike(&one, &other, full.iter().copied())?;
-    let unders = [under(&pair.one, depth), under(&pair.other, depth)];
+    let unders = [pair.one.under(depth), pair.other.under(depth)];
     let differ = full.iter().filter(|&&at| unders[0][at..at + 3] != unders[1][at..at + 3]);
     Ok(counted(&pair, &[("opaque pixels", full.len()), ("over other bytes", differ.count())]))
 }
 
 /// "a layer whose alpha is 0 all over may be switched off, its picture withdrawn with it"
-fn invisible(painted: Painter, seed: u64) -> Tried {
-    let pair = gen_invisible(seed);
+fn invisible(painted: Painter, seed: u64, floats: Floats) -> Tried {
+    let pair = gen_invisible(seed, floats);
     let shown = pair.one.shown(pair.layer);
     assert!(shown.iter().all(|pixel| pixel.alpha == 0), "seed {seed}: it is clear all over");
     assert!(!pair.other.words.order().contains(&pair.layer), "seed {seed}: it is off");
@@ -107,8 +104,8 @@ fn invisible(painted: Painter, seed: u64) -> Tried {
 
 /// "each channel lies between the least and greatest of the background's and the covering layers'
 /// there"
-fn between(painted: Painter, seed: u64) -> Tried {
-    let inputs = Inputs::gen(seed, 1);
+fn between(painted: Painter, seed: u64, floats: Floats) -> Tried {
+    let inputs = Inputs::gen(seed, 1, floats);
     let frame = painted(&inputs)?;
     let ground = inputs.words.background();
     let mut least: Vec<u8> = [ground[0], ground[1], ground[2], 255].repeat(frame.len() / 4);
@@ -143,6 +140,17 @@ fn between(painted: Painter, seed: u64) -> Tried {
         ),
         ("channels amid".into(), bytes(&|at| least[at] < frame[at] && frame[at] < greatest[at])),
     ])
+}
+
+/// 02 K7: "Demands 2 and 3 read a float layer by these bytes": it is painted as the same picture
+/// among the bytes is.
+fn as_bytes(painted: Painter, seed: u64) -> Tried {
+    let pair = gen_as_bytes(seed);
+    let (one, other) = (painted(&pair.one)?, painted(&pair.other)?);
+    alike(&one, &other, (0..one.len()).step_by(4))?;
+    let shown = pair.one.shown(pair.layer).into_iter();
+    let is_seen = shown.filter(|pixel| pixel.alpha > 0 && pixel.channels != [0; 3]);
+    Ok(counted(&pair, &[("pixels of floats", is_seen.count())]))
 }
 
 /// "1 to 3 give text colour plus value minus one, modulo 16."
@@ -233,6 +241,7 @@ fn split_holds(split: &Split, whole: &[Vec<u8>], parts: &[Vec<u8>]) -> Tried {
     }
     let mut names = vec![(bits_name(split.stage.display.bits()), 1)];
     let active = split.stage.display.active();
+    names.extend((active.floats_len() > 0).then(|| ("with floats".into(), 1)));
     for (side, low, high) in [("under", 0, split.depth), ("over", split.depth, 8)] {
         let mut after = split.stage.clone();
         after.play(record(BAND, low, high));
@@ -246,34 +255,68 @@ fn split_holds(split: &Split, whole: &[Vec<u8>], parts: &[Vec<u8>]) -> Tried {
     Ok(names)
 }
 
+/// Tries a law on frames that the host entry paints, which has no float buffer.
+fn try_by_host(least: &[&[(&str, usize)]], law: fn(Painter, u64, Floats) -> Tried) {
+    let mut host = Host::start();
+    let least = [&EITHER[..], &least.concat()].concat();
+    let painted: Painter = &mut |inputs| host.painted(&inputs.call());
+    try_all(CASES, &least, |seed| law(painted, seed, Floats::Without));
+}
+
+/// Tries a law on frames that the calls from C paint, with float layers too.
+fn try_by_doors(least: &[&[(&str, usize)]], law: fn(Painter, u64, Floats) -> Tried) {
+    let doors = RefCell::new(Doors::start());
+    let calls = |steps: &[Step]| doors.borrow_mut().row(steps);
+    let least = [&EITHER[..], &least.concat()].concat();
+    let painted: Painter = &mut |inputs| last_output(&calls, &inputs.row());
+    try_all(CASES, &least, |seed| law(painted, seed, Floats::With));
+}
+
+/// How two layers lie that exchange depths, and how many cases of each are the least.
+const NEIGHBOURS: [(&str, usize); 12] = [
+    ("depths in a row", 600),
+    ("a gap between the depths", 300),
+    ("numbers as depths", 500),
+    ("numbers against depths", 500),
+    ("touching", 500),
+    ("apart", 300),
+    ("side by side", 500),
+    ("one above the other", 500),
+    ("something under both", 300),
+    ("nothing under them", 300),
+    ("something over both", 300),
+    ("nothing over them", 300),
+];
+
 #[test]
 fn neighbours_that_share_no_pixel_exchange_depths() {
-    let mut host = Host::start();
-    let least = [
-        ("depths in a row", 600),
-        ("a gap between the depths", 300),
-        ("numbers as depths", 500),
-        ("numbers against depths", 500),
-        ("touching", 500),
-        ("apart", 300),
-        ("side by side", 500),
-        ("one above the other", 500),
+    let kinds = [
         ("list under list", 200),
         ("list under picture", 200),
         ("picture under list", 200),
         ("picture under picture", 200),
-        ("something under both", 300),
-        ("nothing under them", 300),
-        ("something over both", 300),
-        ("nothing over them", 300),
     ];
-    let least = [&EITHER[..], &least].concat();
-    try_all(CASES, &least, |seed| exchange(&mut |inputs| host.painted(&inputs.call()), seed));
+    try_by_host(&[&NEIGHBOURS, &kinds], exchange);
+}
+
+#[test]
+fn neighbours_exchange_depths_with_floats() {
+    let kinds = [
+        ("list under list", 200),
+        ("list under picture", 100),
+        ("list under floats", 100),
+        ("picture under list", 100),
+        ("picture under picture", 50),
+        ("picture under floats", 50),
+        ("floats under list", 100),
+        ("floats under picture", 50),
+        ("floats under floats", 50),
+    ];
+    try_by_doors(&[&NEIGHBOURS, &kinds], exchange);
 }
 
 /// How a layer comes by one alpha all over, and how many cases of each are the least.
-const WAYS: [(&str, usize); 8] = [
-    ("by its bytes", 100),
+const WAYS: [(&str, usize); 7] = [
     ("by its colour table", 100),
     ("by the colours drawn", 100),
     ("by global alpha", 100),
@@ -283,45 +326,87 @@ const WAYS: [(&str, usize); 8] = [
     ("by a fade past its end", 100),
 ];
 
+/// What comes of opaque pixels.
+const OPAQUE: [(&str, usize); 4] = [
+    ("over layers", 700),
+    ("over the background alone", 150),
+    ("opaque pixels", 20_000),
+    ("over other bytes", 20_000),
+];
+
 #[test]
 fn nothing_counts_under_an_opaque_pixel() {
-    let mut host = Host::start();
-    let own = [
-        ("by some of its bytes", 100),
-        ("over layers", 700),
-        ("over the background alone", 150),
-        ("opaque pixels", 20_000),
-        ("over other bytes", 20_000),
-    ];
-    let least = [&EITHER[..], &WAYS, &own].concat();
-    try_all(CASES, &least, |seed| opaque(&mut |inputs| host.painted(&inputs.call()), seed));
+    let pictures = [("by its bytes", 100), ("by some of its bytes", 100)];
+    try_by_host(&[&WAYS, &OPAQUE, &pictures], opaque);
+}
+
+#[test]
+fn nothing_counts_under_an_opaque_float() {
+    let pictures = [("by its bytes", 50), ("by some of its bytes", 50)];
+    let floats = [("by its floats", 50), ("by some of its floats", 50)];
+    try_by_doors(&[&WAYS, &OPAQUE, &pictures, &floats], opaque);
 }
 
 #[test]
 fn a_clear_layer_may_be_switched_off() {
-    let mut host = Host::start();
     let own = [
+        ("by its bytes", 100),
         ("pictures move up", 150),
         ("no picture after its own", 150),
         ("no picture of its own", 400),
         ("pixels that would be seen", 20_000),
     ];
-    let least = [&EITHER[..], &WAYS, &own].concat();
-    try_all(CASES, &least, |seed| invisible(&mut |inputs| host.painted(&inputs.call()), seed));
+    try_by_host(&[&WAYS, &own], invisible);
 }
 
 #[test]
-fn channels_lie_between_what_covers_them() {
-    let mut host = Host::start();
-    let least = [
-        ("channels under two layers or more", 100_000),
-        ("channels that can be one number", 50_000),
-        ("channels at the least", 20_000),
-        ("channels at the greatest", 20_000),
-        ("channels amid", 100_000),
+fn a_clear_layer_of_floats_may_be_switched_off() {
+    let own = [
+        ("by its bytes", 50),
+        ("by its floats", 50),
+        ("pictures move up", 75),
+        ("no picture after its own", 75),
+        ("floats move up", 75),
+        ("no floats after its own", 75),
+        ("no picture of its own", 400),
+        ("pixels that would be seen", 20_000),
     ];
-    let least = [&EITHER[..], &least].concat();
-    try_all(CASES, &least, |seed| between(&mut |inputs| host.painted(&inputs.call()), seed));
+    try_by_doors(&[&WAYS, &own], invisible);
+}
+
+/// Where channels lie between what covers them.
+const AMID: [(&str, usize); 5] = [
+    ("channels under two layers or more", 100_000),
+    ("channels that can be one number", 50_000),
+    ("channels at the least", 20_000),
+    ("channels at the greatest", 20_000),
+    ("channels amid", 100_000),
+];
+
+#[test]
+fn channels_lie_between_what_covers_them() {
+    try_by_host(&[&AMID], between);
+}
+
+#[test]
+fn channels_lie_between_floats() {
+    try_by_doors(&[&AMID], between);
+}
+
+#[test]
+fn a_float_layer_is_its_bytes() {
+    let kinds = [
+        ("several of floats", 400),
+        ("one of floats", 400),
+        ("all as bytes", 500),
+        ("one as bytes", 500),
+        ("at global alpha", 500),
+        ("at its own alpha", 500),
+        ("pixels of floats", 20_000),
+    ];
+    let layers = [0, 1, 2, 3, 4, 5, 6, 7].map(|n| format!("layer {n}"));
+    let layers = layers.each_ref().map(|name| (name.as_str(), 100));
+    try_by_doors(&[&kinds, &layers], |painted, seed, _| as_bytes(painted, seed));
 }
 
 #[test]
@@ -336,6 +421,7 @@ fn a_split_painting_is_one() {
     let least = [
         ("with one bit", 50),
         ("with two bits", 50),
+        ("with floats", 30),
         ("layers under", 100),
         ("layers over", 100),
         ("END missed under", 15),
@@ -349,7 +435,7 @@ fn a_split_painting_is_one() {
 
 /// Every layer over the others by another rule for a channel; each pixel so many pixels wide.
 fn wrong(inputs: &Inputs, rule: fn(u32, u32, u32) -> u32, wide: usize) -> Vec<u8> {
-    let mut out = under(inputs, 0);
+    let mut out = inputs.under(0);
     for pixel in inputs.words.order().into_iter().flat_map(|n| inputs.shown(n)) {
         for at in (pixel.at..out.len()).step_by(4).take(wide) {
             for channel in 0..3 {
@@ -384,10 +470,12 @@ fn impostors_are_caught() {
     let thin = &mut |inputs: &Inputs| {
         Ok(wrong(inputs, |a, over, under| (a * over + (256 - a) * under + 128) / 256, 1))
     };
-    assert!((0..50).any(|seed| exchange(run_over, seed).is_err()));
-    assert!((0..50).any(|seed| opaque(thin, seed).is_err()));
-    assert!((0..50).any(|seed| invisible(dim, seed).is_err()));
-    assert!((0..50).any(|seed| between(dim, seed).is_err()));
+    for floats in [Floats::With, Floats::Without] {
+        assert!((0..50).any(|seed| exchange(run_over, seed, floats).is_err()));
+        assert!((0..50).any(|seed| opaque(thin, seed, floats).is_err()));
+        assert!((0..50).any(|seed| invisible(dim, seed, floats).is_err()));
+        assert!((0..50).any(|seed| between(dim, seed, floats).is_err()));
+    }
     assert!((0..50).any(|seed| one_value(&mut |inputs| Ok(mirrored(inputs)), seed).is_err()));
     let silent = |script: &[u8]| {
         let printed = String::from_utf8(print_script(script)).expect("letters and digits");
@@ -398,4 +486,19 @@ fn impostors_are_caught() {
         printed.lines().map(line).collect::<String>().into_bytes()
     };
     assert!(splits(&silent, 0..=49).iter().any(Result::is_err));
+}
+
+/// And on displays that take float pictures otherwise (02 K7). The right one keeps the law. Which
+/// refusal comes first shows in no law of painting.
+#[test]
+fn wrong_floats_are_caught() {
+    let is_kept = |fault: Fault| {
+        let calls = |steps: &[Step]| Impostor::new(fault).row(steps);
+        let painted: Painter = &mut |inputs| last_output(&calls, &inputs.row());
+        (0..50).all(|seed| as_bytes(painted, seed).is_ok())
+    };
+    assert!(is_kept(Fault::None));
+    for fault in Fault::FLOATS.into_iter().filter(|&fault| fault != Fault::FloatsFirst) {
+        assert!(!is_kept(fault), "{fault:?} goes unseen");
+    }
 }

@@ -44,7 +44,7 @@ fn play(calls: Calls, case: &RunCase, steps: &[Step]) -> Result<Vec<Left>, Strin
 }
 
 fn call(case: &RunCase, door: Door, a: u32, b: u32, run: usize) -> Step {
-    let lent = door.lent([STATE_LEN, case.tables.len(), 0, 0, run, COUNT_LEN]);
+    let lent = door.lent([STATE_LEN, case.tables.len(), 0, 0, 0, run, COUNT_LEN]);
     Step::Call { door, a, b, lent, null: false }
 }
 

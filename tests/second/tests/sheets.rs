@@ -7,7 +7,10 @@
 use second::beside::{fewer, lines, program, run, seed, seeds};
 use second::cases::{byte_sheet, drawing_sheet, gen_sheet, line_text, number_sheet, word_sheet};
 use second::cases::{LINES_A_SHEET, SHEETS};
-use second::sheet::{print_sheet, Line};
+use second::display::Display;
+use second::floats::Floats;
+use second::sheet::{print_sheet, read_lines, Line, Sheet};
+use second::tables::Bits;
 use std::fs;
 use std::path::Path;
 
@@ -159,4 +162,18 @@ fn an_impostor_is_caught_and_its_sheet_made_small() {
         .and_then(|rest| rest.split(' ').next());
     let lines: usize = small.and_then(|count| count.parse().ok()).expect("it is told");
     assert!(lines < 6, "{told}");
+}
+
+/// And on one whose display lets float layers in, which it has to refuse (02 K7).
+#[test]
+fn a_display_that_lets_floats_in_is_caught() {
+    let impostor = |sheet: &[u8]| {
+        let display = Display::fresh(Bits::One, Floats::With);
+        let mut lax = Sheet { display, tables: vec![0; Bits::One.tables_len()] };
+        read_lines(sheet).into_iter().flat_map(|line| lax.line(line)).collect()
+    };
+    let caught = (0..SHEETS).find_map(|seed| compare_generated(seed, &impostor).err());
+    assert!(caught.expect("the impostor goes unseen").contains("we print  07"));
+    let swept = compare("the sheet of words", &word_sheet(), &impostor);
+    assert!(swept.is_err_and(|told| told.contains("we print  07")));
 }

@@ -14,9 +14,9 @@ same-length c = search needs
 returns : tie.Need-returns
 returns c framing =
     rw (c .before .before .frame .ensures .1)
-    (between-frame _ _ _ _ framing
-    (λ i. c .before .before .before .before .before .before .shared-slice-known .given i .fits)
-    (λ i. c .before .before .before .before .before .shared-slice-known2 .given i .fits))
+    (between-frame _ _ _ _ _ framing
+    (λ i. c .before .before .before .before .before .before .before .shared-slice-known .given i .fits)
+    (λ i. c .before .before .before .before .before .before .shared-slice-known2 .given i .fits))
 
 pub between-frame-spec : {M : Type 1} → statement M
 between-frame-spec = tie.close (tie.spec frame-requires same-length returns)

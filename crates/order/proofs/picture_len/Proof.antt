@@ -7,6 +7,7 @@ use Prim.Native.Nat.{_*_, _≤_}
 use native.Mathlib.Nat.{mul-le-mul}
 use native.Mathlib.Omega.{arith}
 use Rattle.words.specs.Pictures.{pictureLen}
+use Rattle.words.proofs.PictureLaws.{agree-self}
 use Rattle.order.proofs.picture_len.Statement.{statement}
 use Rattle.order.proofs.picture_len.Tie as tie
 
@@ -42,6 +43,7 @@ returns-3 c =
       not-false (c .before .before .before .before .before .args .l .on)
           (c .before .before .before .if1 .left),
       c .before .before .if2 .left,
+      agree-self (c .before .before .before .before .before .args .l .floats),
     )
 
 pub picture-len-spec : {M : Type 1} → statement M

@@ -1,41 +1,28 @@
 -- `order::pictures_of` meets its contract: the invariant is that the starts below n are
--- written and the sum so far is the next; the measure is what is left. Assumes nothing.
+-- written and the sums so far are the next; the measure is what is left. Assumes nothing.
 use borrow.Author.Needs.{needs}
 use Prim.Native.Nat.{_≤_, _-_}
 use native.Mathlib.Omega.{arith}
-use Rattle.words.proofs.PictureLaws.{StartsTo, starts-none, starts-next, starts-all, pictureStart-le}
+use Rattle.order.proofs.StartLaws.{StartsTo, starts-none, starts-room, starts-next, starts-all}
 use Rattle.order.proofs.pictures_of.Statement.{statement}
 use Rattle.order.proofs.pictures_of.Tie as tie
 
 abbrev Inv-loop : tie.InvT-loop
-Inv-loop w starts₀ total₀ n₀ starts total n = (n ≤ 8) × StartsTo w starts total n
+Inv-loop w pictures₀ n₀ pictures n = (n ≤ 8) × StartsTo w pictures n
 
 abbrev μ-loop : tie.MeasureT-loop
-μ-loop w starts₀ total₀ n₀ starts total n = 8 - n
+μ-loop w pictures₀ n₀ pictures n = 8 - n
 
 loop-holds : tie.Need-loop-holds Inv-loop μ-loop
 loop-holds c = (search needs, starts-none _)
 
-picture-len-at-requires : tie.Need-picture-len-at-requires Inv-loop μ-loop
-picture-len-at-requires c κs = search needs
+layer-of-requires : tie.Need-layer-of-requires Inv-loop μ-loop
+layer-of-requires c κs = search needs
 
-cast-len : tie.Need-cast-len Inv-loop μ-loop
-cast-len c = omega (arith, c .picture-len-at .ensures .1)
-
-mul-starts : tie.Need-mul-starts Inv-loop μ-loop
-mul-starts c = search needs
-
-array-write-starts : tie.Need-array-write-starts Inv-loop μ-loop
-array-write-starts c = search needs
-
-add-total : tie.Need-add-total Inv-loop μ-loop
-add-total c =
-    omega (
-      arith,
-      c .before .before .loop .inv .1 .sum,
-      pictureStart-le (c .before .before .before .args .w .now)
-          (c .before .before .loop .n) (omega arith),
-    )
+with-picture-requires : tie.Need-with-picture-requires Inv-loop μ-loop
+with-picture-requires c κs =
+    let r = starts-room _ _ _ _ (c .before .loop-test .taken) (c .before .before .loop .inv .1) (c .layer-of .ensures) in
+    (search needs, r .0, r .1)
 
 add-n : tie.Need-add-n Inv-loop μ-loop
 add-n c = search needs
@@ -46,12 +33,12 @@ loop-less c = search needs
 loop-again : tie.Need-loop-again Inv-loop μ-loop
 loop-again c = (
   search needs,
-  starts-next _ _ _ _ _ (omega arith) (c .before .before .loop .inv .1)
-      (c .picture-len-at .ensures .0),
+  starts-next _ _ _ _ _ (c .before .before .loop-test .taken) (c .before .before .before .loop .inv .1)
+      (c .before .layer-of .ensures) (c .with-picture .ensures),
 )
 
 returns : tie.Need-returns Inv-loop μ-loop
-returns c = starts-all _ _ _ _ (omega arith) (omega arith) (c .before .loop .inv .1)
+returns c = starts-all _ _ _ (omega arith) (omega arith) (c .before .loop .inv .1)
 
 pub pictures-of-spec : {M : Type 1} → statement M
 pictures-of-spec =
@@ -60,11 +47,8 @@ pictures-of-spec =
     Inv-loop
     μ-loop
     loop-holds
-    picture-len-at-requires
-    cast-len
-    mul-starts
-    array-write-starts
-    add-total
+    layer-of-requires
+    with-picture-requires
     add-n
     loop-less
     loop-again

@@ -2,7 +2,7 @@
 use borrow.Author.Needs.{needs}
 use mathlib.Core.Path.{_≡_, _∙_}
 use denote.Ref.{now}
-use Rattle.order.proofs.LayoutLaws.{held-total}
+use Rattle.order.proofs.LayoutLaws.{held-bytes, held-floats}
 use Rattle.frames.specs.Scene.{Scene, sceneOf}
 use Rattle.frames.specs.Frame.{refusalOf}
 use Rattle.paint.proofs.PartLaws.{whole-asked, whole-told, whole-output}
@@ -13,26 +13,28 @@ bits-of-requires : tie.Need-bits-of-requires
 bits-of-requires c κs = search needs
 
 paint-refusal-requires : tie.Need-paint-refusal-requires
-paint-refusal-requires c κs = (c .bits-of .ensures .2, held-total _ _ (c .before .before .before .before .pre))
+paint-refusal-requires c κs =
+    let held = c .before .before .before .before .before .before .pre in
+    (c .before .bits-of .ensures .2, held-bytes _ _ held, held-floats _ _ held)
 
 screen-height-requires : tie.Need-screen-height-requires
 screen-height-requires c κs = search needs
 
-cast-t20 : tie.Need-cast-t20
-cast-t20 c = search needs
+cast-t22 : tie.Need-cast-t22
+cast-t22 c = search needs
 
 -- ---- what is refused, with the profile's bits
 
 abbrev start : tie.After-paint-refusal → tie.Start
-start c = c .before .before .before .before .before
+start c = c .before .before .before .before .before .before .before
 
 abbrev scene : tie.After-paint-refusal → Scene
 scene c =
-    let a = start c .args in sceneOf (a .profile) (now (a .w)) (a .frame) (now (a .tables)) (now (a .pictures))
+    let a = start c .args in sceneOf (a .profile) (now (a .w)) (a .frame) (now (a .tables)) (now (a .pictures)) (now (a .floats))
 
 refused : (c : tie.After-paint-refusal)
     → c .paint-refusal .result ≡ refusalOf (scene c) (start c .args .low) (start c .args .high) (now (start c .args .out))
-refused c = rw (c .before .bits-of .ensures .0) at (c .paint-refusal .ensures)
+refused c = rw (c .before .before .bits-of .ensures .0) at (c .paint-refusal .ensures)
 
 paint-unless-requires : tie.Need-paint-unless-requires
 paint-unless-requires c κs =
@@ -60,7 +62,7 @@ checked-band-spec =
     bits-of-requires
     paint-refusal-requires
     screen-height-requires
-    cast-t20
+    cast-t22
     paint-unless-requires
     same-length
     returns)

@@ -27,7 +27,7 @@ ground-of-requires c κs = search needs
 
 lay-ground-requires : tie.Need-lay-ground-requires
 lay-ground-requires c κs =
-    let a = c .before .before .before .before .before .before .before in
+    let a = c .before .before .before .before .before .before .before .before in
     rw (a .pre .1 .long) (omega (arith, four (a .args .part .count) (widthOf (now (a .args .w)))))
 
 same-length : tie.Need-same-length
@@ -35,7 +35,7 @@ same-length c = ap length (c .before .before .lay-ground .ensures) ∙ length-ea
 
 returns : tie.Need-returns
 returns c =
-    let a = c .before .before .before .before .before .before .before .before .before .before in
+    let a = c .before .before .before .before .before .before .before .before .before .before .before in
     let off = sym (c .before .before .before .before .before .before .is-shown .ensures)
     ∙ not-true _ (c .before .before .before .before .before .if1 .taken) in
     part-off _ (a .args .part) _ _ _ _ off
@@ -47,13 +47,13 @@ bits-of-requires c κs = search needs
 
 plan-of-requires : tie.Need-plan-of-requires
 plan-of-requires c κs =
-    let a = c .before .before .before .before .before .before in
+    let a = c .before .before .before .before .before .before .before in
     rw (c .bits-of .ensures .0) (bits-few (a .args .profile), a .pre .0, a .pre .1 .lent .tables)
 
 -- ---- the plan, with the profile's bits
 
 abbrev start : tie.After-plan-of → tie.Start
-start c = c .before .before .before .before .before .before .before
+start c = c .before .before .before .before .before .before .before .before
 
 planned : (c : tie.After-plan-of)
     → Planned (bitsOf (start c .args .profile)) (now (start c .args .w)) (start c .args .frame) (now (start c .args .tables))
@@ -81,7 +81,8 @@ returns-2 c =
     let on = sym (c .before .before .before .before .before .before .before .is-shown .ensures)
     ∙ not-false _ (c .before .before .before .before .before .before .if1 .left) in
     part-on _ _ _ _ _ _ _ on (marked p ∙ marks-is _ _ _ _ (a .pre .1 .low) (a .pre .1 .high))
-    (c .before .before .paint-rows .ensures .laid _ (refl, (refl, refl))
+    (c .before .before .paint-rows .ensures .laid _
+    (refl, record { makes = record { draws = refl; flows = refl }; pours = record { shows = refl; flows = refl } })
     (record { order = a .pre .1 .low; end = a .pre .1 .high; planned = planned p }))
 
 pub paint-part-spec : {M : Type 1} → statement M

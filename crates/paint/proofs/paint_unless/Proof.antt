@@ -5,11 +5,11 @@ use Rattle.paint.proofs.paint_unless.Statement.{statement}
 use Rattle.paint.proofs.paint_unless.Tie as tie
 
 returns : tie.Need-returns
-returns c = part-refused _ _ (c .before .before .before .before .args .fresh) _ _ _ (c .if1 .taken)
+returns c = part-refused _ _ (c .before .before .before .before .before .args .fresh) _ _ _ (c .if1 .taken)
 
 paint-part-requires : tie.Need-paint-part-requires
 paint-part-requires c κs =
-    let pre = c .before .before .before .before .before .pre in (pre .0, pre .1 (c .before .if1 .left))
+    let pre = c .before .before .before .before .before .before .pre in (pre .0, pre .1 (c .before .if1 .left))
 
 same-length : tie.Need-same-length
 same-length c = search needs

@@ -5,6 +5,7 @@ use mathlib.Core.Path.{_≡_}
 use mathlib.Core.Bool.{Bool}
 use mathlib.Core.List.{List}
 use lib.Dec.{ltb}
+use lib.Ieee.{Float}
 use lib.ListN.{length}
 use Rattle.lists.specs.Choice.{pick}
 use Rattle.lists.specs.Tab.{each}
@@ -56,9 +57,9 @@ pub record PartFits (s : Scene) (part : Part) (out : List ℕ) : Type 0 where
 
 -- ---- what a worker does, in every such scene
 
--- the scene has these words, tables and pictures
-abbrev pub Holds : List ℕ → List ℕ → List ℕ → Scene → Type 0
-Holds w tables pictures s = (s .words ≡ w) × Lends tables pictures s
+-- the scene has these words, tables, pictures and floats
+abbrev pub Holds : List ℕ → List ℕ → List ℕ → List Float → Scene → Type 0
+Holds w tables pictures floats s = (s .words ≡ w) × Lends tables pictures floats s
 
 -- line y is one of the part's
 pub record OnLines (part : Part) (y : ℕ) : Type 0 where

@@ -13,7 +13,7 @@ use Rattle.profiles.specs.Profile.{bitsOf}
 use Rattle.words.specs.declared.fields.Layer.{Layer}
 use Rattle.words.specs.Fields.{widthOf, layerOf}
 use Rattle.words.specs.Order.{orderOf, within, bandLayers}
-use Rattle.words.specs.Pictures.{pictureStart}
+use Rattle.words.specs.Pictures.{startAt}
 use Rattle.tables.specs.Geometry.{listKind, coloursKind, stringsKind, fontKind}
 use Rattle.tables.specs.Selection.{activeAt}
 use Rattle.draw.specs.Drawing.{endedOf, listEnd}
@@ -43,7 +43,7 @@ pub record Made (bits : ℕ) (w : List ℕ) (frame : ℕ) (tables : List ℕ) (n
   pub left : t .left ≡ leftEnd (widthOf w) (layerOf w n)
   pub wide : t .wide ≡ wideOf (widthOf w) (layerOf w n)
   pub alpha : t .alpha ≡ fadedOf frame (layerOf w n)
-  pub start : t .start ≡ pictureStart w n
+  pub start : t .start ≡ startAt w n
   pub glyph : t .bits ≡ bits
   pub list : t .list ≡ activeAt bits w n listKind
   pub strings : t .strings ≡ activeAt bits w n stringsKind
@@ -60,6 +60,7 @@ blankStep =
           record {
             on = false;
             graphics = false;
+            floats = false;
             depth = 0;
             global = false;
             value = 0;
@@ -97,12 +98,16 @@ taken p l = both (within (p .low) (p .high) l) (reaches (p .first) (p .count) l)
 unfoldable pub partLayers : List ℕ → Part → List ℕ
 partLayers w p = keep (λ n. taken p (layerOf w n)) (orderOf w)
 
--- the plan of the layers l; it is a drawn one where one of them is a graphics layer
+-- whether a row of a layer is made before it is laid: drawn, or turned from floats to bytes
+abbrev pub isMade : Layer → Bool
+isMade l = either (l .graphics) (l .floats)
+
+-- the plan of the layers l; it is a drawn one where rows of one of them are made
 pub record Planned (bits : ℕ) (w : List ℕ) (frame : ℕ) (tables l : List ℕ) (p : Plan) : Type 0 where
   pub room : length (p .steps) ≡ 8
   pub count : p .count ≡ length l
   pub made : (j : ℕ) → j < length l → Made bits w frame tables (getD l j 0) (getD (p .steps) j blankStep)
-  pub drawn : (j : ℕ) → j < length l → layerOf w (getD l j 0) .graphics ≡ true → p .drawn ≡ true
+  pub drawn : (j : ℕ) → j < length l → isMade (layerOf w (getD l j 0)) ≡ true → p .drawn ≡ true
 
 -- ---- the error word
 
@@ -126,7 +131,7 @@ pub record Pushed (p : Plan) (t : Step) (r : Plan) : Type 0 where
   pub steps : r .steps ≡ set (p .steps) (p .count) t
   pub count : r .count ≡ p .count + 1
   pub errors : r .errors ≡ p .errors
-  pub drawn : r .drawn ≡ either (t .layer .graphics) (p .drawn)
+  pub drawn : r .drawn ≡ either (isMade (t .layer)) (p .drawn)
 
 -- the plan r is p with layer n behind it, where n is a layer of the part, and its bit is set, where it is one of the
 -- part's depths

@@ -38,6 +38,7 @@ returns c =
       c .before .before .before .before .before .number-refusal .ensures,
       c .before .before .before .before .before .before .lent-refusal .ensures,
       c .before .before .before .before .before .before .before .pre .1,
+      c .before .before .before .before .before .before .before .pre .2,
     )
 
 pub line-refusal-spec : {M : Type 1} → statement M

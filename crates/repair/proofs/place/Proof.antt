@@ -7,6 +7,9 @@ use Rattle.repair.proofs.place.Tie as tie
 clear-requires : tie.Need-clear-requires
 clear-requires c κs = search needs
 
+one-kind-requires : tie.Need-one-kind-requires
+one-kind-requires c κs = search needs
+
 empties-off-requires : tie.Need-empties-off-requires
 empties-off-requires c κs = search needs
 
@@ -23,10 +26,17 @@ returns c =
       c .fit .ensures,
       c .before .larges-off .ensures,
       c .before .before .empties-off .ensures,
-      c .before .before .before .clear .ensures,
+      c .before .before .before .one-kind .ensures,
+      c .before .before .before .before .clear .ensures,
     )
 
 pub place-spec : {M : Type 1} → statement M
 place-spec =
     tie.close
-    (tie.spec clear-requires empties-off-requires larges-off-requires fit-requires returns)
+    (tie.spec
+    clear-requires
+    one-kind-requires
+    empties-off-requires
+    larges-off-requires
+    fit-requires
+    returns)

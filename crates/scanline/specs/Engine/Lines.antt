@@ -7,6 +7,7 @@ use mathlib.Core.Bool.{Bool, true, false, not}
 use mathlib.Core.List.{List}
 use lib.ListN.{length, getD, take, drop}
 use lib.Dec.{eqb}
+use lib.Ieee.{Float}
 use Rattle.lists.specs.Choice.{pick, both}
 use Rattle.lists.specs.Steps.{through}
 use Rattle.lists.specs.Tab.{tab, each}
@@ -19,18 +20,19 @@ use Rattle.tables.specs.Geometry.{tablesLen, listLen, stringsLen, fontLen}
 use Rattle.draw.specs.Drawing.{countOf, indexAt}
 use Rattle.colours.specs.Rows as rows
 use Rattle.frames.specs.Scene.{Scene}
-use Rattle.frames.specs.Pixel.{spans, overAt}
+use Rattle.frames.specs.Pixel.{spans, ownAt, overAt}
 use Rattle.frames.specs.Band.{pixelAt}
 use Rattle.plan.specs.declared.Step.{Step}
 use Rattle.plan.specs.declared.Plan.{Plan}
-use Rattle.plan.specs.Engine.Plan.{blankStep, partAt, OfLayer, OfLayers, OfFirst}
+use Rattle.plan.specs.Engine.Plan.{blankStep, isMade, partAt, OfLayer, OfLayers, OfFirst}
 
 -- ---- what a worker asks
 
--- tables and pictures of the right lengths
+-- tables, pictures and floats of the right lengths
 pub record Lent (s : Scene) : Type 0 where
   pub tables : length (s .tables) ≡ tablesLen (bitsOf (s .profile))
-  pub pictures : length (s .pictures) ≡ picturesLen (s .words)
+  pub pictures : length (s .pictures) ≡ picturesLen false (s .words)
+  pub floats : length (s .floats) ≡ picturesLen true (s .words)
 
 -- a pixel of a glyph has one bit or two; the banks that a step draws from lie in the tables, and its list ends where it
 -- says
@@ -46,23 +48,27 @@ pub record Banked (tables : List ℕ) (t : Step) : Type 0 where
 abbrev pub OnLine : Step → ℕ → Type 0
 OnLine t bytes = pixelLen * t .left + pixelLen * t .wide ≤ bytes
 
--- the picture of a step, where it has one, lies among the pictures
-pub record Pictured (pictures : List ℕ) (t : Step) : Type 0 where
+-- where a picture of a step ends in its buffer
+abbrev pub pictureEnd : Step → ℕ
+pictureEnd t = t .start + pixelLen * (t .layer .width * t .layer .height)
+
+-- the picture of a step, where it has one, lies among the pictures or among the floats
+pub record Pictured (pictures : List ℕ) (floats : List Float) (t : Step) : Type 0 where
   pub wide : t .wide ≤ t .layer .width
-  pub room : t .layer .graphics ≡ false
-      → t .start + pixelLen * (t .layer .width * t .layer .height) ≤ length pictures
+  pub bytes : t .layer .graphics ≡ false → t .layer .floats ≡ false → pictureEnd t ≤ length pictures
+  pub flows : t .layer .graphics ≡ false → t .layer .floats ≡ true → pictureEnd t ≤ length floats
 
 -- a step that fits a line of so many bytes
-pub record Fit (tables pictures : List ℕ) (bytes : ℕ) (t : Step) : Type 0 where
+pub record Fit (tables pictures : List ℕ) (floats : List Float) (bytes : ℕ) (t : Step) : Type 0 where
   pub on : OnLine t bytes
   pub banked : t .layer .graphics ≡ true → Banked tables t
-  pub pictured : Pictured pictures t
+  pub pictured : Pictured pictures floats t
 
--- a plan of such steps, which is a drawn one where one of them is a graphics layer
-pub record AllFit (tables pictures : List ℕ) (bytes : ℕ) (p : Plan) : Type 0 where
+-- a plan of such steps, which is a drawn one where rows of one of them are made
+pub record AllFit (tables pictures : List ℕ) (floats : List Float) (bytes : ℕ) (p : Plan) : Type 0 where
   pub few : p .count ≤ 8
-  pub fit : (j : ℕ) → j < p .count → Fit tables pictures bytes (getD (p .steps) j blankStep)
-  pub drawn : (j : ℕ) → j < p .count → getD (p .steps) j blankStep .layer .graphics ≡ true → p .drawn ≡ true
+  pub fit : (j : ℕ) → j < p .count → Fit tables pictures floats bytes (getD (p .steps) j blankStep)
+  pub drawn : (j : ℕ) → j < p .count → isMade (getD (p .steps) j blankStep .layer) ≡ true → p .drawn ≡ true
 
 -- room for the colour indexes of a line of so many bytes, and for its pixels
 pub record Scratch (bytes : ℕ) (indexes row : List ℕ) : Type 0 where
@@ -74,9 +80,19 @@ pub record OnRow (t : Step) (y : ℕ) : Type 0 where
   pub top : t .layer .y ≤ y
   pub bottom : y < t .layer .y + t .layer .height
 
--- where line y of a frame layer begins among the pictures
+-- where line y of a frame layer begins in its buffer
 abbrev pub rowStart : Step → ℕ → ℕ
 rowStart t y = t .start + pixelLen * ((y - t .layer .y) * t .layer .width)
+
+-- line y of a float layer lies among the floats
+abbrev pub RowFlows : List Float → Step → ℕ → Type 0
+RowFlows floats t y = rowStart t y + pixelLen * t .wide ≤ length floats
+
+-- what a row is made from: the banks of a graphics layer, the floats of any other
+pub record Makable (tables : List ℕ) (floats : List Float) (t : Step) (y : ℕ) : Type 0 where
+  pub made : isMade (t .layer) ≡ true
+  pub banked : t .layer .graphics ≡ true → Banked tables t
+  pub flows : t .layer .graphics ≡ false → RowFlows floats t y
 
 -- the layer is a picture that takes up the whole of line y, which has so many pixels
 unfoldable pub wholeLine : Step → ℕ → ℕ → Bool
@@ -126,9 +142,29 @@ Shows pictures s = s .pictures ≡ pictures
 abbrev pub Draws : List ℕ → Scene → Type 0
 Draws tables s = s .tables ≡ tables
 
--- both
-abbrev pub Lends : List ℕ → List ℕ → Scene → Type 0
-Lends tables pictures s = Draws tables s × Shows pictures s
+-- these floats
+abbrev pub Flows : List Float → Scene → Type 0
+Flows floats s = s .floats ≡ floats
+
+-- what rows are made from
+pub record Makes (tables : List ℕ) (floats : List Float) (s : Scene) : Type 0 where
+  pub draws : Draws tables s
+  pub flows : Flows floats s
+
+-- what pictures are taken from
+pub record Pours (pictures : List ℕ) (floats : List Float) (s : Scene) : Type 0 where
+  pub shows : Shows pictures s
+  pub flows : Flows floats s
+
+-- all of them
+pub record Lends (tables pictures : List ℕ) (floats : List Float) (s : Scene) : Type 0 where
+  pub makes : Makes tables floats s
+  pub pours : Pours pictures floats s
+
+-- a row holds the step's pixels of line y
+pub record RowMade (Of : Scene → Type 0) (t : Step) (y : ℕ) (row : List ℕ) : Type 0 where
+  pub own : (s : Scene) → Of s → OfLayer s t → (u c : ℕ) → u < t .wide → c < pixelLen
+      → getD row (pixelLen * u + c) 0 ≡ ownAt s (t .number) (y - t .layer .y) u c
 
 -- the line is as long as the scene's are
 abbrev pub OfLine : Scene → List ℕ → Type 0

@@ -14,29 +14,37 @@ first-clash-requires c κs = search needs
 or-else-requires : tie.Need-or-else-requires
 or-else-requires c κs = search needs
 
-first-reserved-requires : tie.Need-first-reserved-requires
-first-reserved-requires c κs = search needs
-
 screen-requires : tie.Need-screen-requires
 screen-requires c κs = search needs
 
 or-else-requires-2 : tie.Need-or-else-requires-2
 or-else-requires-2 c κs = search needs
 
+first-reserved-requires : tie.Need-first-reserved-requires
+first-reserved-requires c κs = search needs
+
+first-kind-requires : tie.Need-first-kind-requires
+first-kind-requires c κs = search needs
+
 or-else-requires-3 : tie.Need-or-else-requires-3
 or-else-requires-3 c κs = search needs
+
+or-else-requires-4 : tie.Need-or-else-requires-4
+or-else-requires-4 c κs = search needs
 
 returns : tie.Need-returns
 unfolding checkOf
 returns c =
     rw (
-      c .or-else3 .ensures,
-      c .before .or-else2 .ensures,
-      c .before .before .screen .ensures,
+      c .or-else4 .ensures,
+      c .before .or-else3 .ensures,
+      c .before .before .first-kind .ensures,
       c .before .before .before .first-reserved .ensures,
-      c .before .before .before .before .or-else .ensures,
-      c .before .before .before .before .before .first-clash .ensures,
-      c .before .before .before .before .before .before .first-place .ensures,
+      c .before .before .before .before .or-else2 .ensures,
+      c .before .before .before .before .before .screen .ensures,
+      c .before .before .before .before .before .before .or-else .ensures,
+      c .before .before .before .before .before .before .before .first-clash .ensures,
+      c .before .before .before .before .before .before .before .before .first-place .ensures,
     )
 
 pub refusal-of-spec : {M : Type 1} → statement M
@@ -46,8 +54,10 @@ refusal-of-spec =
     first-place-requires
     first-clash-requires
     or-else-requires
-    first-reserved-requires
     screen-requires
     or-else-requires-2
+    first-reserved-requires
+    first-kind-requires
     or-else-requires-3
+    or-else-requires-4
     returns)

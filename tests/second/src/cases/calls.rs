@@ -1,9 +1,11 @@
 //! Scripts of calls on one display (01 "Answers by number"), and the script that the gate runs.
 
 use crate::answers::DONE;
+use crate::cases::floats::float;
 use crate::cases::scene::{controller, nudge, scene, spoil, Room};
-use crate::cases::{banks, letter_script, lines, orders, runs};
+use crate::cases::{banks, float_script, letter_script, lines, orders, runs};
 use crate::display::{Display, Painting, ITEM_LEN};
+use crate::floats::{Floats, FLOAT_LEN};
 use crate::rng::Rng;
 use crate::script::*;
 use crate::tables::{Bank, Bits, Kind, COLOURS};
@@ -16,13 +18,13 @@ const FRAME_PIXELS: i64 = 900;
 const END: [u8; 4] = [0; 4];
 
 /// The scripts that the tests compare unless told otherwise, of the seeds from 0 on.
-pub const SCRIPTS: u64 = 30;
+pub const SCRIPTS: u64 = 36;
 pub const RECORDS_A_SCRIPT: usize = 1_000;
 /// And the scripts of edges.
 pub const EDGES: u64 = 12;
 
 /// The first seed with which the gate's script has calls of every kind.
-const GATE_SEED: u64 = 2_015;
+const GATE_SEED: u64 = 25;
 const GATE_RECORDS: usize = 2_000;
 const GATE_TURNS: usize = 20;
 
@@ -31,9 +33,9 @@ const GATE_TURNS: usize = 20;
 pub fn gen_calls(seed: u64, n: usize) -> Vec<Call> {
     // Kept apart from the other cases' seeds.
     let mut author = Author::new(seed ^ 0x6361_6C6C);
-    // Every second script begins with the display that is there before the first record.
-    if seed % 2 == 1 {
-        author.call(NEW, 2, 0);
+    // Every fourth script begins with the display that is there before the first record.
+    if seed % 4 < 3 {
+        author.call(NEW, 1 + (seed % 2) as u32, 1);
     }
     while author.calls.len() < n {
         let nothing_active = author.stage.display.active().output_len() == 0;
@@ -99,15 +101,16 @@ pub fn gen_orders(seed: u64, turns: usize) -> Vec<Call> {
     author.calls
 }
 
-/// The script that the gate runs: all blends, the fades of ten lengths, calls of every kind, changes
-/// of order, and letters of one bit and two.
+/// The script that the gate runs: all blends, the fades of ten lengths, calls of every kind,
+/// changes of order, letters of one bit and two, and float pictures.
 pub fn gate_script() -> Vec<Call> {
     let blends = (0..256).map(|alpha| Call { letter: BLENDS, a: alpha, b: 0 });
     let lengths = [0, 1, 2, 3, 4, 255, 256, 32_768, 65_534, 65_535];
     let fades = lengths.map(|length| Call { letter: FADES, a: length, b: 0 });
     let calls = gen_calls(GATE_SEED, GATE_RECORDS).into_iter();
     let orders = gen_orders(0, GATE_TURNS).into_iter();
-    blends.chain(fades).chain(calls).chain(orders).chain(letter_script()).collect()
+    let scripts = letter_script().into_iter().chain(float_script());
+    blends.chain(fades).chain(calls).chain(orders).chain(scripts).collect()
 }
 
 struct Author {
@@ -132,8 +135,8 @@ impl Author {
     /// before anything is selected.
     fn begin_anew(&mut self) {
         for _ in 0..self.rng.range(1, 3) {
-            let bits = new_bits(&mut self.rng);
-            self.call(NEW, bits, 0);
+            let (bits, floats) = (new_bits(&mut self.rng), new_floats(&mut self.rng));
+            self.call(NEW, bits, floats);
         }
         if self.rng.percent(60) {
             let bytes = self.rng.bytes(24);
@@ -143,7 +146,7 @@ impl Author {
 
     /// A letter that means nothing.
     fn unknown(&mut self) {
-        let letter = self.rng.pick(b"AZ?0wp");
+        let letter = self.rng.pick(b"CO?0az");
         let (a, b) = (self.rng.u32(), self.rng.u32());
         self.call(letter, a, b);
     }
@@ -155,29 +158,44 @@ impl Author {
         self.call(letter, first, step);
     }
 
+    /// Stores some numbers among the floats of the layers, at times behind them.
+    fn store_floats(&mut self, count: i64) {
+        let end = self.stage.display.active().floats_len().max(1) as usize;
+        for _ in 0..count {
+            let place = self.rng.below(end) as u32;
+            let (last, past) = (self.stage.floats.len() as u32 - 1, self.stage.floats.len() as u32);
+            let behind = self.rng.pick(&[last, past, past + place, u32::MAX]);
+            let place = if self.rng.percent(5) { behind } else { place };
+            let number = float(&mut self.rng);
+            self.call(FLOAT, place, number);
+        }
+    }
+
     /// Lends the right length of a buffer, or so many times in a hundred a wrong one near it.
+    /// Floats are counted in bytes at times.
     fn lend(&mut self, buffer: u32, right: usize, wrong: i64) {
         let mut length = right;
         if self.rng.percent(wrong) {
-            length = self.rng.pick(&[0, right.saturating_sub(1), right + 1, right + 4]);
+            let bytes = if buffer == FLOATS { FLOAT_LEN * right } else { right + 4 };
+            length = self.rng.pick(&[0, right.saturating_sub(1), right + 1, right + 4, bytes]);
         }
-        let Lent { tables, pictures, out } = self.stage.lent;
-        if [tables, pictures, out][buffer as usize] != length {
+        let Lent { tables, pictures, floats, out } = self.stage.lent;
+        if [tables, pictures, out, floats][buffer as usize] != length {
             self.call(LEND, buffer, length as u32);
         }
     }
 
     fn lend_tables(&mut self, wrong: i64) {
-        self.lend(0, self.stage.display.bits().tables_len(), wrong);
+        self.lend(TABLES, self.stage.display.bits().tables_len(), wrong);
     }
 
     /// Lends the tables of the other number of bits to each call that takes some.
     fn lend_the_others(&mut self) {
         self.lend_all();
         let other = self.stage.display.bits().other();
-        self.call(LEND, 0, other.tables_len() as u32);
+        self.call(LEND, TABLES, other.tables_len() as u32);
         let line = self.stage.display.active().line_len() as u32;
-        let paintings = [(BAND, 0, 8), (FRAME, 0, 0), (LEND, 2, line), (LINE, 0, 0)];
+        let paintings = [(BAND, 0, 8), (FRAME, 0, 0), (LEND, OUT, line), (LINE, 0, 0)];
         for (letter, a, b) in [(PUT, 1, 0), (PUT_RUN, 0, 4)].into_iter().chain(paintings) {
             self.call(letter, a, b);
         }
@@ -186,8 +204,8 @@ impl Author {
     /// Makes a display of either number of bits, has two layers shown, with their words pending
     /// too, and lends each buffer as a frame needs it.
     fn make_ready(&mut self) {
-        let bits = self.rng.pick(&Bits::ALL);
-        self.call(NEW, bits.number() as u32, 0);
+        let (bits, floats) = (self.rng.pick(&Bits::ALL), new_floats(&mut self.rng));
+        self.call(NEW, bits.number() as u32, floats);
         self.fill_buffer(FILL_TABLES);
         let mut layers = 0;
         while layers < 2 || !self.stage.display.active().display_on() {
@@ -197,11 +215,17 @@ impl Author {
         }
         let active = self.stage.display.active().clone();
         self.write_missing(&active);
-        self.fill_buffer(FILL_PICTURES);
-        self.fill_buffer(FILL_OUT);
-        let lengths = [bits.tables_len() as i64, active.pictures_len(), active.output_len()];
-        for (buffer, length) in lengths.into_iter().enumerate() {
-            self.call(LEND, buffer as u32, length as u32);
+        for letter in [FILL_PICTURES, FILL_FLOATS, FILL_OUT] {
+            self.fill_buffer(letter);
+        }
+        let lengths = [
+            (TABLES, bits.tables_len() as i64),
+            (PICTURES, active.pictures_len()),
+            (FLOATS, active.floats_len()),
+            (OUT, active.output_len()),
+        ];
+        for (buffer, length) in lengths {
+            self.call(LEND, buffer, length as u32);
         }
     }
 
@@ -222,7 +246,7 @@ impl Author {
         let right = self.stage.lent.out;
         let wrong = self.rng.pick(&[0, right - 4, right - 1, right + 1, right + 4]);
         for length in [wrong, right] {
-            self.call(LEND, 2, length as u32);
+            self.call(LEND, OUT, length as u32);
             self.call(FILL, 0, 0);
         }
     }
@@ -389,8 +413,11 @@ impl Author {
     fn set_up(&mut self) {
         let mut wish = wish(&mut self.rng, &self.stage.display);
         if self.rng.percent(20) {
-            let fault = self.rng.range(7, 11) as u32;
-            spoil(&mut self.rng, &mut wish, fault);
+            // Without a float buffer more can be wrong with a layer's kind.
+            let floats = self.stage.display.floats();
+            let first = if floats == Floats::Without { 4 } else { 7 };
+            let fault = self.rng.range(first, 11).max(7) as u32;
+            spoil(&mut self.rng, &mut wish, fault, floats);
         }
         if self.rng.percent(10) {
             wish.0[0] &= !0b100;
@@ -468,6 +495,13 @@ impl Author {
         if self.rng.percent(40) {
             self.fill_buffer(FILL_PICTURES);
         }
+        if self.stage.display.active().floats_len() > 0 {
+            if self.rng.percent(40) {
+                self.fill_buffer(FILL_FLOATS);
+            }
+            let count = self.rng.pick(&[0, 0, 1, 4]);
+            self.store_floats(count);
+        }
         if self.rng.percent(30) {
             self.fill_buffer(FILL_OUT);
         }
@@ -511,10 +545,14 @@ impl Author {
 
     /// Lends each buffer, so many bytes of the output being right.
     fn lend_for(&mut self, out: i64) {
-        let pictures = self.stage.display.active().pictures_len();
+        let active = self.stage.display.active();
+        let (pictures, floats) = (active.pictures_len(), active.floats_len());
+        // Both at once show which is asked first.
+        let wrong = self.rng.pick(&[3, 3, 3, 3, 3, 3, 3, 3, 3, 3, 3, 60]);
         self.lend_tables(3);
-        self.lend(1, pictures as usize, 3);
-        self.lend(2, out as usize, 3);
+        self.lend(PICTURES, pictures as usize, wrong);
+        self.lend(FLOATS, floats as usize, wrong);
+        self.lend(OUT, out as usize, 3);
     }
 
     // ---- changes of order
@@ -522,8 +560,10 @@ impl Author {
     /// Shows layers that lie over each other, on a display of either number of bits.
     fn show_order(&mut self) {
         let bits = self.rng.pick(&Bits::ALL);
-        self.call(NEW, bits.number() as u32, 0);
-        for (letter, step) in [(FILL_TABLES, 0x0601_0003), (FILL_PICTURES, 0x9E37_79B1)] {
+        self.call(NEW, bits.number() as u32, 1);
+        let mixed = 0x9E37_79B1;
+        let fills = [(FILL_TABLES, 0x0601_0003), (FILL_PICTURES, mixed), (FILL_FLOATS, mixed)];
+        for (letter, step) in fills {
             let first = self.rng.u32();
             self.call(letter, first, step);
         }
@@ -551,12 +591,17 @@ impl Author {
         }
     }
 
-    /// Paints by a frame, by a band and by a line, in any order; at times by the pictures that the
-    /// words before, or the pending ones, would ask for.
+    /// Paints by a frame, by a band and by a line, in any order; at times by the pictures or the
+    /// floats that the words before, or the pending ones, would ask for.
     fn paint_each_way(&mut self, old: &Words) {
         let active = self.stage.display.active().clone();
-        let pending = self.stage.display.pending().pictures_len();
-        let total = self.rng.pick(&[old.pictures_len(), pending]);
+        let pending = self.stage.display.pending();
+        let other = if self.rng.percent(50) { old } else { pending };
+        let lengths = [
+            (PICTURES, active.pictures_len(), other.pictures_len()),
+            (FLOATS, active.floats_len(), other.floats_len()),
+        ];
+        self.store_floats(4);
         for painting in orders::paintings(&mut self.rng, active.height()) {
             let (letter, a, b, out) = match painting {
                 Painting::Band(low, high) => (BAND, low, high, active.output_len()),
@@ -564,10 +609,13 @@ impl Author {
                 Painting::Line(y) => (LINE, y, 0, active.line_len()),
             };
             self.fill_buffer(FILL_OUT);
-            let pictures = if self.rng.percent(10) { total } else { active.pictures_len() };
             self.lend_tables(0);
-            self.lend(1, pictures as usize, 0);
-            self.lend(2, out as usize, 0);
+            let more = orders::too_many(&mut self.rng);
+            for (buffer, right, other) in lengths {
+                let length = if self.rng.percent(10) { other } else { right };
+                self.lend(buffer, length as usize + more, 0);
+            }
+            self.lend(OUT, out as usize, 0);
             self.call(letter, a, b);
         }
     }
@@ -575,14 +623,14 @@ impl Author {
 
 /// The words that a display shall have pending before its next start.
 pub fn wish(rng: &mut Rng, display: &Display) -> Words {
-    let now = display.frame_number().wrapping_add(1);
-    let room = |width, height| Room { width, height, frame_pixels: FRAME_PIXELS, now };
+    let (now, floats) = (display.frame_number().wrapping_add(1), display.floats());
+    let room = |width, height| Room { width, height, frame_pixels: FRAME_PIXELS, now, floats };
     // After a refused start the pending words are left behind and the active ones gone on from.
     let words = [display.pending(), display.active()];
-    match words.into_iter().find(|words| words.check() == DONE) {
+    match words.into_iter().find(|words| words.check(floats) == DONE) {
         Some(base) if rng.percent(92) => {
             let mut wish = nudge(rng, base, room(base.width(), base.height()));
-            wish.0[0] = 0b100 | u32::from(rng.percent(90));
+            wish.0[0] = 0b100 | u32::from(rng.percent(87));
             wish.0[3] ^= 1 << rng.below(32);
             wish
         }
@@ -598,6 +646,11 @@ pub fn wish(rng: &mut Rng, display: &Display) -> Words {
 pub fn new_bits(rng: &mut Rng) -> u32 {
     let wrong = rng.pick(&[0, 0, 3, 3, 0x101, 0x102, 0x1_0001, 0x8000_0002, u32::MAX]);
     rng.pick(&[2, 2, 2, 1, wrong, wrong])
+}
+
+/// Whether a display has a float buffer, as a rule: any number but 0 says so.
+fn new_floats(rng: &mut Rng) -> u32 {
+    rng.pick(&[0, 0, 1, 1, 2, 1 << 31])
 }
 
 /// A band that is empty, refused, or any at all.

@@ -5,10 +5,11 @@ use crate::answers::*;
 use crate::cases::hosts::frame_number;
 use crate::cases::scene::{scene, spoil, Room};
 use crate::doors::ROOM;
+use crate::floats::{Floats, FLOAT_LEN};
 use crate::rng::Rng;
 use crate::state::*;
 use crate::tables::{Bits, Kind};
-use crate::words::{layer_word, named_bits, Words, LAYERS, WORDS};
+use crate::words::{layer_word, named_bits, Words, GRAPHICS_BIT, KIND_BITS, LAYERS, WORDS};
 
 pub fn state(rng: &mut Rng) -> Vec<u8> {
     match rng.below(10) {
@@ -27,7 +28,7 @@ fn any_word(rng: &mut Rng) -> u32 {
 fn paintable(rng: &mut Rng) -> Vec<u8> {
     let now = rng.pick(&[0, 1, 77, u32::MAX]);
     let (width, height) = (rng.range(1, 40), rng.range(1, 24));
-    let room = Room { width, height, frame_pixels: 2 * width * height, now };
+    let room = Room { width, height, frame_pixels: 2 * width * height, now, floats: Floats::With };
     let mut active = scene(rng, room);
     let mut pending = if rng.percent(50) { active.clone() } else { scene(rng, room) };
     if rng.percent(85) {
@@ -58,11 +59,13 @@ fn paintable(rng: &mut Rng) -> Vec<u8> {
     bytes
 }
 
-/// A number of bits and a profile that says so; in half of them bits are set that do not count.
+/// A number of bits and a profile that says so, and whether float layers are let in; in half of them
+/// bits are set that do not count.
 fn profile(rng: &mut Rng) -> (Bits, u32) {
     let bits = rng.pick(&Bits::ALL);
-    let others = rng.pick(&[0, 0, 0, 0, 2, 0x100, 1 << 31, !1]);
-    (bits, others | u32::from(bits == Bits::Two))
+    let others = rng.pick(&[0, 0, 0, 0, 4, 0x100, 1 << 31, !3]);
+    let closed = rng.pick(&[0, 0, 0, 2]);
+    (bits, others | closed | u32::from(bits == Bits::Two))
 }
 
 /// Gives the words faults that a start would refuse, and mostly keeps their pictures short enough
@@ -71,7 +74,10 @@ fn damage(rng: &mut Rng, words: &mut Words) {
     let faults = [EMPTY_LAYER, LAYER_OUTSIDE, LAYER_OUTSIDE, SAME_DEPTH, SAME_DEPTH, SAME_DEPTH];
     for _ in 0..rng.range(1, 3) {
         let fault = rng.pick(&faults);
-        spoil(rng, words, fault);
+        spoil(rng, words, fault, Floats::With);
+    }
+    if rng.percent(30) {
+        words.0[layer_word(rng.below(LAYERS))] |= KIND_BITS;
     }
     if rng.percent(30) {
         stretch(rng, words);
@@ -80,12 +86,12 @@ fn damage(rng: &mut Rng, words: &mut Words) {
         set_reserved(rng, words);
     }
     if rng.percent(10) {
-        spoil(rng, words, NO_OUTPUT);
+        spoil(rng, words, NO_OUTPUT, Floats::With);
     }
     // Now and then one that no host could lend remains.
     for n in (0..LAYERS).filter(|_| rng.percent(98)) {
-        if words.layer(n).picture_len() > (ROOM / LAYERS) as i64 {
-            words.0[layer_word(n)] |= 0b10;
+        if FLOAT_LEN as i64 * words.layer(n).picture_len() > (ROOM / LAYERS) as i64 {
+            words.0[layer_word(n)] |= GRAPHICS_BIT;
         }
     }
 }

@@ -2,10 +2,12 @@
 
 use crate::answers::DONE;
 use crate::cases::calls::{new_bits, odd_band, wish};
+use crate::cases::floats::floats;
 use crate::cases::scene::{controller, pictures, spoil};
 use crate::cases::{banks, damage, hosts, lines, orders, runs};
 use crate::display::{Display, Painting};
 use crate::doors::*;
+use crate::floats::{bytes_of, FLOAT_LEN};
 use crate::rng::Rng;
 use crate::state::{read_state, ACTIVE_AT, FRAME_AT, PLACE_AT, PROFILE_AT};
 use crate::state::{SELECTED_AT, SELECTION_AT, STATE_LEN};
@@ -13,7 +15,7 @@ use crate::tables::{Bank, Kind};
 use crate::words::{Words, WORDS};
 
 /// The rows that the tests compare unless told otherwise, of the seeds from 0 on.
-pub const ROWS: u64 = 500;
+pub const ROWS: u64 = 600;
 
 /// A row, a short one or a long one. It is made up of short parts, each going on from what the
 /// calls before it left.
@@ -83,7 +85,7 @@ impl Author {
 
     /// A call, now and then on the same state by other bytes.
     fn call(&mut self, door: Door, a: u32, b: u32) -> u32 {
-        if door != Door::Write && self.rng.percent(10) {
+        if door != Door::Write && self.rng.percent(13) {
             self.spell_anew();
         }
         let lent = self.lent(door);
@@ -107,7 +109,7 @@ impl Author {
             Door::Line => self.rng.pick(&[0, 0, 0, 40]),
             // Runs come less often than other calls, and many of them have bytes.
             Door::PutRun | Door::WriteRun => 10,
-            _ => 6,
+            _ => 7,
         };
         for buffer in (0..BUFFERS).filter(|&buffer| door.takes(buffer)) {
             let right = self.right(door, buffer);
@@ -116,7 +118,20 @@ impl Author {
             let length = if is_wrong { self.rng.pick(&near) } else { right };
             lent[buffer] = Lent { length: length.min(ROOM), past: self.rng.pick(&places(buffer)) };
         }
+        if door.takes(FLOATS) && self.rng.percent(3) {
+            self.lend_wrong_pictures(&mut lent);
+        }
         lent
+    }
+
+    /// Bytes and floats of wrong lengths at once.
+    fn lend_wrong_pictures(&mut self, lent: &mut [Lent; BUFFERS]) {
+        for buffer in [PICTURES, FLOATS] {
+            let right = self.right(Door::Frame, buffer);
+            let near = self.near(buffer, right).into_iter().filter(|&near| near != right);
+            let wrong: Vec<usize> = near.collect();
+            lent[buffer].length = self.rng.pick(&wrong).min(ROOM);
+        }
     }
 
     /// How many bytes of a buffer a call needs.
@@ -127,6 +142,7 @@ impl Author {
             STATE => STATE_LEN,
             TABLES => display.bits().tables_len(),
             PICTURES => length(active.pictures_len()),
+            FLOATS => length(FLOAT_LEN as i64 * active.floats_len()),
             OUTPUT if door == Door::Line => length(active.line_len()),
             OUTPUT => length(active.output_len()),
             RUN => self.run,
@@ -136,9 +152,12 @@ impl Author {
 
     /// Lengths that are near the right one, or right for other calls and states.
     fn near(&self, buffer: usize, right: usize) -> Vec<usize> {
-        let mut near = vec![0, right.saturating_sub(4), right.saturating_sub(1)];
-        near.extend([right + 1, right + 4]);
+        let one = unit(buffer);
+        let mut near = vec![0, right.saturating_sub(4 * one), right.saturating_sub(one)];
+        near.extend([right + one, right + 4 * one]);
         match buffer {
+            // A number for each byte, and one for each pixel.
+            FLOATS => near.extend([FLOAT_LEN * right, right / 4]),
             TABLES => near.extend([self.display().bits().other().tables_len(); 2]),
             OUTPUT => near.extend([Door::Line, Door::Frame].map(|door| self.right(door, OUTPUT))),
             _ => {}
@@ -147,7 +166,7 @@ impl Author {
     }
 
     /// The same state by other bytes: where something is selected, any number but 0 says so, and of
-    /// the profile bit 0 alone counts.
+    /// the profile bits 0 and 1 alone count.
     fn spell_anew(&mut self) {
         let mut state = self.stage.rooms[STATE][..STATE_LEN].to_vec();
         let others: [u32; 5] = [2, 7, 256, 1 << 31, u32::MAX];
@@ -156,7 +175,7 @@ impl Author {
             selected.copy_from_slice(&self.rng.pick(&others).to_le_bytes());
         }
         if self.rng.percent(50) {
-            let profile = self.rng.pick(&others) & !1 | u32::from(state[PROFILE_AT] & 1);
+            let profile = self.rng.pick(&others) & !3 | u32::from(state[PROFILE_AT] & 3);
             state[PROFILE_AT..].copy_from_slice(&profile.to_le_bytes());
         }
         self.store(STATE, state);
@@ -188,9 +207,19 @@ impl Author {
             }
             _ => self.damage(),
         }
+        if self.rng.percent(20) {
+            self.keep_floats_out();
+        }
         if self.rng.percent(60) {
             self.store_tables();
         }
+    }
+
+    /// From now on no float layer is let in, until a state is made anew.
+    fn keep_floats_out(&mut self) {
+        let mut state = self.stage.rooms[STATE][..STATE_LEN].to_vec();
+        state[PROFILE_AT] |= 2;
+        self.store(STATE, state);
     }
 
     fn make(&mut self) {
@@ -243,7 +272,7 @@ impl Author {
         let mut wish = wish(&mut self.rng, &display);
         if self.rng.percent(30) {
             let fault = self.rng.range(7, 11) as u32;
-            spoil(&mut self.rng, &mut wish, fault);
+            spoil(&mut self.rng, &mut wish, fault, display.floats());
         }
         if self.rng.percent(10) {
             wish.0[0] &= !0b100;
@@ -289,7 +318,7 @@ impl Author {
         if self.rng.percent(40) {
             self.go_to_end(kind);
         }
-        if self.rng.percent(40) {
+        if self.rng.percent(50) {
             self.run_puts(&bytes);
             return;
         }
@@ -385,10 +414,15 @@ impl Author {
 
     /// At times other pictures, and other bytes in the output, as many as a call needs.
     fn store_pixels(&mut self, door: Door) {
-        let [shown, out] = [PICTURES, OUTPUT].map(|buffer| self.right(door, buffer));
+        let [shown, numbers, out] =
+            [PICTURES, FLOATS, OUTPUT].map(|buffer| self.right(door, buffer) / unit(buffer));
         if self.rng.percent(50) {
             let bytes = pictures(&mut self.rng, shown);
             self.store(PICTURES, bytes);
+        }
+        if self.rng.percent(50) {
+            let numbers = floats(&mut self.rng, numbers);
+            self.store(FLOATS, bytes_of(&numbers));
         }
         if self.rng.percent(40) {
             let bytes = self.rng.bytes(out);
@@ -406,8 +440,11 @@ impl Author {
         self.call(Door::Start, 0, 0);
         self.store_tables();
         // As many as eight layers can need.
-        let bytes = pictures(&mut self.rng, 4 * 8 * 9 * 5);
+        const MOST: usize = 4 * 8 * 9 * 5;
+        let bytes = pictures(&mut self.rng, MOST);
         self.store(PICTURES, bytes);
+        let numbers = floats(&mut self.rng, MOST);
+        self.store(FLOATS, bytes_of(&numbers));
     }
 
     /// Has words that are arranged otherwise stored as the active ones, or written and as a rule
@@ -429,12 +466,12 @@ impl Author {
         }
     }
 
-    /// Paints by a frame, by a band and by a line, in any order; at times by the pictures that the
-    /// words before, or the pending ones, would ask for.
+    /// Paints by a frame, by a band and by a line, in any order; at times by the pictures or the
+    /// floats that the words before, or the pending ones, would ask for.
     fn paint_each_way(&mut self, old: &Words) {
         let display = self.display();
-        let pending = display.pending().pictures_len();
-        let total = self.rng.pick(&[old.pictures_len(), pending]);
+        let other = if self.rng.percent(50) { old } else { display.pending() };
+        let totals = [other.pictures_len(), FLOAT_LEN as i64 * other.floats_len()];
         for painting in orders::paintings(&mut self.rng, display.height()) {
             let (door, a, b) = match painting {
                 Painting::Band(low, high) => (Door::Paint, low, high),
@@ -444,8 +481,12 @@ impl Author {
             let bytes = self.rng.bytes(self.right(door, OUTPUT));
             self.store(OUTPUT, bytes);
             let mut lent = self.lent(door);
-            if self.rng.percent(10) {
-                lent[PICTURES].length = length(total);
+            let more = orders::too_many(&mut self.rng);
+            for (buffer, total) in [PICTURES, FLOATS].into_iter().zip(totals) {
+                if self.rng.percent(10) {
+                    lent[buffer].length = length(total);
+                }
+                lent[buffer].length += unit(buffer) * more;
             }
             self.call_with(door, a, b, lent);
         }

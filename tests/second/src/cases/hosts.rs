@@ -4,6 +4,7 @@
 use crate::answers::*;
 use crate::cases::banks;
 use crate::cases::scene::{pictures, scene, spoil, Room};
+use crate::floats::Floats;
 use crate::host::IMAGE_LEN;
 use crate::rng::Rng;
 use crate::tables::{Bank, Bits, Kind};
@@ -11,6 +12,9 @@ use crate::words::{Words, LAYERS};
 
 /// The calls that the tests compare unless told otherwise, of the seeds from 0 on.
 pub const HOST_CALLS: u64 = 4_000;
+
+/// The entry has no float buffer.
+const FLOATS: Floats = Floats::Without;
 
 /// All that one call lends.
 #[derive(Clone, Debug)]
@@ -28,7 +32,7 @@ pub fn gen_host(seed: u64) -> HostCase {
     let (width, height) = screen(rng);
     let now = rng.pick(&[0, 1, 77, i32::MAX as u32, 1 << 31, u32::MAX]);
     let frame_pixels = 3 * width * height;
-    let mut words = scene(rng, Room { width, height, frame_pixels, now });
+    let mut words = scene(rng, Room { width, height, frame_pixels, now, floats: FLOATS });
     if rng.percent(50) {
         words.0[0] &= !0b100;
     }
@@ -39,7 +43,7 @@ pub fn gen_host(seed: u64) -> HostCase {
     let tables = tables(rng, &words, bits);
     let frame = frame_number(rng, &words, now);
     for &fault in faults.iter().filter(|fault| (RESERVED_BIT..=SAME_DEPTH).contains(fault)) {
-        spoil(rng, &mut words, fault);
+        spoil(rng, &mut words, fault, FLOATS);
     }
     let wrong_images = [0, 4, IMAGE_LEN - 4, IMAGE_LEN - 1, IMAGE_LEN + 1, IMAGE_LEN + 4, 416];
     let image_len = if faults.contains(&WRONG_IMAGE) { rng.pick(&wrong_images) } else { IMAGE_LEN };

@@ -3,13 +3,20 @@
 //! of painting".
 
 use crate::answers::DONE;
+use crate::cases::floats::{extreme, floats};
 use crate::cases::hosts::{fill_banks, frame_number, image_bytes, tables, HostCase};
 use crate::cases::letters::with_lines;
-use crate::cases::scene::{alpha_word, pair, pictures, place, scene, span, write_fade, Room};
-use crate::paint::{shown, Shown};
+use crate::cases::scene::{alpha_word, frame_kind, pair, pictures, place, scene, span};
+use crate::cases::scene::{write_fade, Room};
+use crate::display::Display;
+use crate::doors::{Door, Step, FLOATS, OUTPUT, PICTURES, STATE, TABLES};
+use crate::floats::{byte_of, bytes_of, Floats};
+use crate::paint::{band, fill, shown, Pictures, Shown};
 use crate::rng::Rng;
+use crate::state::{state_bytes, STATE_LEN};
 use crate::tables::{Bank, Bits, Kind, Tables, COLOURS, INSTRUCTIONS, INSTRUCTION_LEN};
-use crate::words::{layer_word, Words, DEPTH_BITS, LAYERS};
+use crate::words::{layer_word, Layer, Words, LAYERS};
+use crate::words::{DEPTH_BITS, FLOAT_BIT, GRAPHICS_BIT};
 
 /// All that a frame is painted from, accepted and of the right lengths, with the display on.
 #[derive(Clone)]
@@ -18,8 +25,10 @@ pub struct Inputs {
     pub frame: u32,
     pub bits: Bits,
     pub tables: Vec<u8>,
-    /// By layer; what is no enabled frame layer has none.
+    /// By layer; what is no enabled frame layer with a picture of bytes has none.
     pub pictures: [Vec<u8>; LAYERS],
+    /// And what is no enabled float layer has no floats.
+    pub floats: [Vec<u32>; LAYERS],
 }
 
 /// Two inputs of which a law speaks together, the layer that it is about, and by what names the
@@ -33,13 +42,13 @@ pub struct Pair {
 
 impl Inputs {
     /// Of a seed, with so many layers at least.
-    pub fn gen(seed: u64, layers: usize) -> Inputs {
-        Inputs::new(&mut Rng::new(seed ^ 0x6C61_7773), layers)
+    pub fn gen(seed: u64, layers: usize, floats: Floats) -> Inputs {
+        Inputs::new(&mut Rng::new(seed ^ 0x6C61_7773), layers, floats)
     }
 
     /// With tables of either number of bits.
-    fn new(rng: &mut Rng, layers: usize) -> Inputs {
-        let room = room(rng);
+    fn new(rng: &mut Rng, layers: usize, floats: Floats) -> Inputs {
+        let room = room(rng, floats);
         loop {
             let mut words = scene(rng, room);
             words.0[0] |= 1;
@@ -54,20 +63,23 @@ impl Inputs {
     fn of(rng: &mut Rng, words: Words, now: u32, bits: Bits) -> Inputs {
         let tables = tables(rng, &words, bits);
         let frame = frame_number(rng, &words, now);
-        let mut inputs = Inputs { words, frame, bits, tables, pictures: Default::default() };
+        let (pictures, floats) = (Default::default(), Default::default());
+        let mut inputs = Inputs { words, frame, bits, tables, pictures, floats };
         (0..LAYERS).for_each(|n| inputs.renew_picture(rng, n));
         inputs
     }
 
     fn renew_picture(&mut self, rng: &mut Rng, n: usize) {
         let layer = self.words.layer(n);
-        let length = if layer.enabled && !layer.graphics { layer.picture_len() } else { 0 };
-        self.pictures[n] = pictures(rng, length as usize);
+        let length = |is_so: bool| if layer.enabled && is_so { layer.picture_len() } else { 0 };
+        let bytes = length(!layer.graphics && !layer.float);
+        self.pictures[n] = pictures(rng, bytes as usize);
+        self.floats[n] = floats(rng, length(layer.float) as usize);
     }
 
     /// The call of the host entry, with an output that holds something else.
     pub fn call(&self) -> HostCase {
-        assert_eq!(self.words.check(), DONE, "the words pass");
+        assert_eq!(self.words.check(Floats::Without), DONE, "the words pass");
         HostCase {
             image: image_bytes(&self.words),
             frame: self.frame,
@@ -77,14 +89,45 @@ impl Inputs {
         }
     }
 
+    /// The same by a frame call from C on a display whose active words they are.
+    pub fn row(&self) -> Vec<Step> {
+        assert_eq!(self.words.check(Floats::With), DONE, "the words pass");
+        let (active, frame) = (self.words.clone(), self.frame);
+        let display = Display { active, frame, ..Display::fresh(self.bits, Floats::With) };
+        let stored = [
+            (STATE, state_bytes(&display).to_vec()),
+            (TABLES, self.tables.clone()),
+            (PICTURES, self.pictures.concat()),
+            (FLOATS, bytes_of(&self.floats.concat())),
+            (OUTPUT, vec![0xA5; self.words.output_len() as usize]),
+        ];
+        let [_, tables, pictures, floats, out] = stored.each_ref().map(|(_, bytes)| bytes.len());
+        let lent = Door::Frame.lent([STATE_LEN, tables, pictures, floats, out, 0, 0]);
+        let call = Step::Call { door: Door::Frame, a: 0, b: 0, lent, null: false };
+        let stores = stored.map(|(buffer, bytes)| Step::Store { buffer, bytes });
+        stores.into_iter().chain([call]).collect()
+    }
+
     pub fn lent_tables(&self) -> Tables<'_> {
         Tables { bits: self.bits, bytes: &self.tables }
     }
 
     /// What a layer shows at each of its pixels.
     pub fn shown(&self, n: usize) -> Vec<Shown> {
+        let (bytes, floats) = (self.pictures.concat(), self.floats.concat());
+        let pictures = Pictures { bytes: &bytes, floats: &floats };
         let lines = 0..self.words.height();
-        shown(&self.words, n, lines, self.frame, self.lent_tables(), &self.pictures.concat())
+        shown(&self.words, n, lines, self.frame, self.lent_tables(), pictures)
+    }
+
+    /// What the background and the layers under a depth leave.
+    pub fn under(&self, depth: u32) -> Vec<u8> {
+        let (bytes, floats) = (self.pictures.concat(), self.floats.concat());
+        let pictures = Pictures { bytes: &bytes, floats: &floats };
+        let mut out = vec![0; self.words.output_len() as usize];
+        fill(&self.words, &mut out);
+        band(&self.words, self.frame, 0, depth, self.lent_tables(), pictures, &mut out);
+        out
     }
 }
 
@@ -92,18 +135,26 @@ impl Inputs {
 const TEXT_COLOUR_AT: usize = 13;
 
 /// Small screens, most of them wider than a block of sixteen pixels.
-fn room(rng: &mut Rng) -> Room {
+fn room(rng: &mut Rng, floats: Floats) -> Room {
     let width = rng.pick(&[2, 7, 16, 17, 20, 33, 40]);
     let height = rng.range(2, 9);
     let now = rng.pick(&[0, 1, 77, i32::MAX as u32, 1 << 31, u32::MAX]);
-    Room { width, height, frame_pixels: 8 * width * height, now }
+    Room { width, height, frame_pixels: 8 * width * height, now, floats }
+}
+
+fn kind_name(layer: &Layer) -> &'static str {
+    match (layer.graphics, layer.float) {
+        (true, _) => "list",
+        (_, true) => "floats",
+        _ => "picture",
+    }
 }
 
 /// "two layers next to each other in depth that share no pixel may exchange depths": either side of
 /// a line across the screen, touching it or not. `layer` is the lower one.
-pub fn gen_exchange(seed: u64) -> Pair {
+pub fn gen_exchange(seed: u64, floats: Floats) -> Pair {
     let rng = &mut Rng::new(seed ^ 0x6578_6368);
-    let Inputs { mut words, frame, bits, .. } = Inputs::new(rng, 2);
+    let Inputs { mut words, frame, bits, .. } = Inputs::new(rng, 2, floats);
     let order = words.order();
     let lower = rng.below(order.len() - 1);
     let (i, j) = (order[lower], order[lower + 1]);
@@ -115,14 +166,13 @@ pub fn gen_exchange(seed: u64) -> Pair {
     other.words.0[layer_word(i)] ^= changed;
     other.words.0[layer_word(j)] ^= changed;
     let (low, high) = (one.words.layer(i), one.words.layer(j));
-    let kind = |graphics| if graphics { "list" } else { "picture" };
     let kinds = vec![
         if high.depth == low.depth + 1 { "depths in a row" } else { "a gap between the depths" }
             .into(),
         if i < j { "numbers as depths" } else { "numbers against depths" }.into(),
         if touching { "touching" } else { "apart" }.into(),
         if upright { "side by side" } else { "one above the other" }.into(),
-        format!("{} under {}", kind(low.graphics), kind(high.graphics)),
+        format!("{} under {}", kind_name(&low), kind_name(&high)),
         if lower > 0 { "something under both" } else { "nothing under them" }.into(),
         if lower + 2 < order.len() { "something over both" } else { "nothing over them" }.into(),
     ];
@@ -153,9 +203,9 @@ fn part(rng: &mut Rng, words: &mut Words, i: usize, j: usize, upright: bool) -> 
 
 /// "where a layer's alpha comes to 255, neither the background nor the pixels and alphas of layers
 /// under it count": in the other inputs the background and all layers under it are others.
-pub fn gen_opaque(seed: u64) -> Pair {
+pub fn gen_opaque(seed: u64, floats: Floats) -> Pair {
     let rng = &mut Rng::new(seed ^ 0x6F70_6171);
-    let mut one = Inputs::new(rng, 1);
+    let mut one = Inputs::new(rng, 1, floats);
     let order = one.words.order();
     let place = order.len() - 1 - rng.below(order.len().min(3));
     let layer = order[place];
@@ -169,7 +219,7 @@ pub fn gen_opaque(seed: u64) -> Pair {
     let depth = one.words.layer(layer).depth;
     for m in (0..LAYERS).filter(|&m| m != layer && one.words.layer(m).depth < depth) {
         if one.words.layer(m).enabled || free(&other.words, m) && rng.percent(30) {
-            renew(rng, &mut other, m);
+            renew(rng, &mut other, m, floats);
         }
     }
     let under = if place > 0 { "over layers" } else { "over the background alone" };
@@ -182,13 +232,14 @@ fn free(words: &Words, m: usize) -> bool {
 }
 
 /// Another layer of the same number and depth: its kind, place, alpha, tables and picture.
-fn renew(rng: &mut Rng, inputs: &mut Inputs, m: usize) {
+fn renew(rng: &mut Rng, inputs: &mut Inputs, m: usize, floats: Floats) {
     let words = &mut inputs.words;
-    let room =
-        Room { width: words.width(), height: words.height(), frame_pixels: 0, now: inputs.frame };
+    let (width, height) = (words.width(), words.height());
+    let room = Room { width, height, frame_pixels: 0, now: inputs.frame, floats };
     let depth = words.0[layer_word(m)] & DEPTH_BITS;
     let (on, graphics) = (rng.percent(85), rng.percent(50));
-    words.0[layer_word(m)] = depth | u32::from(graphics) << 1 | u32::from(on);
+    let kind = if graphics { GRAPHICS_BIT } else { frame_kind(rng, floats) };
+    words.0[layer_word(m)] = depth | kind | u32::from(on);
     words.0[layer_word(m) + 1] = alpha_word(rng);
     place(rng, words, m, room);
     write_fade(rng, words, m, inputs.frame);
@@ -197,23 +248,65 @@ fn renew(rng: &mut Rng, inputs: &mut Inputs, m: usize) {
     inputs.renew_picture(rng, m);
 }
 
-/// "a layer whose alpha is 0 all over may be switched off, its picture withdrawn with it".
-pub fn gen_invisible(seed: u64) -> Pair {
+/// "a layer whose alpha is 0 all over may be switched off, its picture withdrawn with it", from the
+/// buffer that it is in.
+pub fn gen_invisible(seed: u64, floats: Floats) -> Pair {
     let rng = &mut Rng::new(seed ^ 0x696E_7669);
-    let mut one = Inputs::new(rng, 1);
+    let mut one = Inputs::new(rng, 1, floats);
     let layer = rng.pick(&one.words.order());
     let by = at_one_alpha(rng, &mut one, layer, 0);
     let mut other = one.clone();
     other.words.0[layer_word(layer)] &= !1;
     other.pictures[layer].clear();
-    let moved = (layer + 1..LAYERS).any(|n| !one.pictures[n].is_empty());
-    let withdrawn = !one.pictures[layer].is_empty();
-    let others = match (withdrawn, moved) {
-        (true, true) => "pictures move up",
-        (true, false) => "no picture after its own",
-        (false, _) => "no picture of its own",
+    other.floats[layer].clear();
+    let kinds = vec![by, withdrawal_name(&one, layer).into()];
+    Pair { one, other, layer, kinds }
+}
+
+/// What becomes of the pictures after a layer's own when that is withdrawn.
+fn withdrawal_name(inputs: &Inputs, layer: usize) -> &'static str {
+    let Layer { graphics, float, .. } = inputs.words.layer(layer);
+    let is_there = |n: usize| match float {
+        true => !inputs.floats[n].is_empty(),
+        false => !inputs.pictures[n].is_empty(),
     };
-    Pair { one, other, layer, kinds: vec![by, others.into()] }
+    match (float, (layer + 1..LAYERS).any(is_there)) {
+        _ if graphics => "no picture of its own",
+        (false, true) => "pictures move up",
+        (false, false) => "no picture after its own",
+        (true, true) => "floats move up",
+        (true, false) => "no floats after its own",
+    }
+}
+
+/// 02 K7: "Demands 2 and 3 read a float layer by these bytes": in the other inputs one float layer,
+/// or each of them, has its picture among the bytes.
+pub fn gen_as_bytes(seed: u64) -> Pair {
+    let rng = &mut Rng::new(seed ^ 0x6279_7465);
+    let (one, of_floats) = loop {
+        let inputs = Inputs::new(rng, 1, Floats::With);
+        let is_float = |n: &usize| inputs.words.layer(*n).float;
+        let of_floats: Vec<usize> = inputs.words.order().into_iter().filter(is_float).collect();
+        if !of_floats.is_empty() {
+            break (inputs, of_floats);
+        }
+    };
+    let layer = rng.pick(&of_floats);
+    let all = rng.percent(50);
+    let mut other = one.clone();
+    for n in of_floats.iter().copied().filter(|&n| all || n == layer) {
+        other.words.0[layer_word(n)] &= !FLOAT_BIT;
+        other.pictures[n] = one.floats[n].iter().map(|&number| byte_of(number)).collect();
+        other.floats[n].clear();
+    }
+    let global = one.words.layer(layer).global_alpha;
+    let kinds = vec![
+        if of_floats.len() > 1 { "several of floats" } else { "one of floats" }.into(),
+        if all { "all as bytes" } else { "one as bytes" }.into(),
+        if global { "at global alpha" } else { "at its own alpha" }.into(),
+        format!("layer {layer}"),
+    ];
+    Pair { one, other, layer, kinds }
 }
 
 /// "1 to 3 give text colour plus value minus one, modulo 16": glyphs of two bits that have only 0
@@ -221,7 +314,7 @@ pub fn gen_invisible(seed: u64) -> Pair {
 /// Answers both, and that value.
 pub fn gen_one_value(seed: u64) -> (Inputs, Inputs, u8) {
     let rng = &mut Rng::new(seed ^ 0x7661_6C75);
-    let Inputs { words, frame, .. } = Inputs::new(rng, 1);
+    let Inputs { words, frame, .. } = Inputs::new(rng, 1, Floats::Without);
     let mut one_bit = Inputs::of(rng, words, frame, Bits::One);
     let value = rng.range(1, 3) as u8;
     let valued = |line: [u8; 8]| line.map(|pixel| pixel * value);
@@ -239,12 +332,14 @@ pub fn gen_one_value(seed: u64) -> (Inputs, Inputs, u8) {
 /// Some pixels of a picture opaque, the rest as they are.
 fn some_opaque(rng: &mut Rng, inputs: &mut Inputs, n: usize) -> String {
     inputs.words.0[layer_word(n) + 1] &= !(1 << 31);
-    for pixel in inputs.pictures[n].chunks_exact_mut(4) {
-        if rng.percent(40) {
-            pixel[3] = 255;
-        }
+    for alpha in inputs.pictures[n].iter_mut().skip(3).step_by(4) {
+        *alpha = if rng.percent(40) { 255 } else { *alpha };
     }
-    "by some of its bytes".into()
+    for alpha in inputs.floats[n].iter_mut().skip(3).step_by(4) {
+        *alpha = if rng.percent(40) { extreme(rng, true) } else { *alpha };
+    }
+    let float = inputs.words.layer(n).float;
+    if float { "by some of its floats" } else { "by some of its bytes" }.into()
 }
 
 /// Gives a layer one alpha all over, in one of the ways that there are, and names it.
@@ -256,6 +351,10 @@ fn at_one_alpha(rng: &mut Rng, inputs: &mut Inputs, n: usize, alpha: u8) -> Stri
         by_fade(rng, inputs, n, alpha)
     } else if inputs.words.layer(n).graphics {
         by_colours(rng, inputs, n, alpha)
+    } else if inputs.words.layer(n).float {
+        let alphas = inputs.floats[n].iter_mut().skip(3).step_by(4);
+        alphas.for_each(|number| *number = extreme(rng, alpha == 255));
+        "by its floats".into()
     } else {
         inputs.pictures[n].iter_mut().skip(3).step_by(4).for_each(|byte| *byte = alpha);
         "by its bytes".into()

@@ -74,7 +74,7 @@ fn show_page(calls: &mut Vec<Call>, bits: Bits) {
         call(calls, WRITE, register, word);
     }
     call(calls, START, 0, 0);
-    call(calls, LEND, 2, 4 * WIDTH * HEIGHT);
+    call(calls, LEND, OUT, 4 * WIDTH * HEIGHT);
     for i in 0..COLOURS {
         store(calls, bits, Kind::Colour, 4 * i, plain_colour(i));
     }
@@ -127,12 +127,12 @@ fn fill_font(calls: &mut Vec<Call>, bits: Bits) {
 
 /// Tables of the other number of bits, to each call that takes some.
 fn lend_the_others(calls: &mut Vec<Call>, bits: Bits) {
-    call(calls, LEND, 0, bits.other().tables_len() as u32);
+    call(calls, LEND, TABLES, bits.other().tables_len() as u32);
     call(calls, PUT, 1, 0);
     call(calls, PUT_RUN, 0, 4);
     call(calls, BAND, 0, 8);
     call(calls, FRAME, 0, 0);
-    call(calls, LEND, 2, 4 * WIDTH);
+    call(calls, LEND, OUT, 4 * WIDTH);
     call(calls, LINE, 0, 0);
 }
 

@@ -3,10 +3,12 @@
 
 use crate::answers::*;
 use crate::cases::drawings::drawing_calls;
+use crate::cases::floats::floats;
 use crate::cases::hosts::{frame_number, tables, wrong_len};
 use crate::cases::scene::{pictures, scene, spoil, Room};
 use crate::display::{Display, Selected};
 use crate::doors::*;
+use crate::floats::{bytes_of, Floats, FLOAT_LEN};
 use crate::host::image_words;
 use crate::rng::Rng;
 use crate::state::{state_bytes, STATE_LEN};
@@ -37,48 +39,55 @@ struct Ready {
     display: Display,
     tables: Vec<u8>,
     pictures: Vec<u8>,
+    floats: Vec<u32>,
 }
 
 impl Ready {
-    /// On a small screen, now and then on one of the greatest width; what is pending or selected is
-    /// anything.
+    /// On a small screen, now and then on one of the greatest width; what is pending, selected or
+    /// let in is anything.
     fn new(rng: &mut Rng) -> Ready {
         let small = (rng.range(1, 40), rng.range(1, 12));
         let (width, height) = if rng.percent(2) { (4_095, 2) } else { small };
         let now = rng.pick(&[0, 1, 77, i32::MAX as u32, 1 << 31, u32::MAX]);
-        let active = scene(rng, Room { width, height, frame_pixels: 2 * width * height, now });
+        let frame_pixels = 2 * width * height;
+        let active = scene(rng, Room { width, height, frame_pixels, now, floats: Floats::With });
         let bits = rng.pick(&Bits::ALL);
         let tables = tables(rng, &active, bits);
         let pictures = pictures(rng, active.pictures_len() as usize);
+        let floats = floats(rng, active.floats_len() as usize);
         let selected = Selected { is_any: rng.percent(50), selection: rng.u32(), place: rng.u32() };
         let any = rng.u32();
         let display = Display {
             bits,
+            floats: rng.pick(&[Floats::With, Floats::Without]),
             pending: Words([(); WORDS].map(|()| rng.u32())),
             frame: frame_number(rng, &active, now),
             active,
             errors: rng.pick(&[0, 0, any]),
             selected,
         };
-        Ready { display, tables, pictures }
+        Ready { display, tables, pictures, floats }
     }
 
     fn store(&self, buffer: usize) -> Step {
         let bytes = match buffer {
             STATE => state_bytes(&self.display).to_vec(),
             TABLES => self.tables.clone(),
-            _ => self.pictures.clone(),
+            PICTURES => self.pictures.clone(),
+            _ => bytes_of(&self.floats),
         };
         Step::Store { buffer, bytes }
     }
 
     fn stores(&self) -> Vec<Step> {
-        [STATE, TABLES, PICTURES].map(|buffer| self.store(buffer)).into()
+        [STATE, TABLES, PICTURES, FLOATS].map(|buffer| self.store(buffer)).into()
     }
 
     /// A call that is lent what there is, and for its output those bytes.
     fn call(&self, door: Door, y: u32, old: Vec<u8>) -> [Step; 2] {
-        let lengths = [STATE_LEN, self.tables.len(), self.pictures.len(), old.len(), 0, 0];
+        let (tables, pictures) = (self.tables.len(), self.pictures.len());
+        let floats = FLOAT_LEN * self.floats.len();
+        let lengths = [STATE_LEN, tables, pictures, floats, old.len(), 0, 0];
         let step = Step::Call { door, a: y, b: 0, lent: door.lent(lengths), null: false };
         [Step::Store { buffer: OUTPUT, bytes: old }, step]
     }
@@ -113,8 +122,9 @@ pub fn drawing_lines(bits: Bits) -> impl Iterator<Item = LinesCase> {
     drawing_calls(bits).into_iter().map(move |page| {
         let active = image_words(&page.image).expect("it is whole");
         let lines = (0..active.height() as u32).rev().collect();
-        let display = Display { active, ..Display::fresh(bits) };
-        let ready = Ready { display, tables: page.tables, pictures: page.pictures };
+        let display = Display { active, ..Display::fresh(bits, Floats::With) };
+        let (tables, pictures) = (page.tables, page.pictures);
+        let ready = Ready { display, tables, pictures, floats: Vec::new() };
         by_lines(&mut Rng::new(0), ready, lines)
     })
 }
@@ -141,8 +151,15 @@ pub struct FaultyLine {
 }
 
 /// What can be wrong with a line call.
-const FAULTS: [u32; 6] =
-    [WRONG_TABLES, NOTHING_ACTIVE, WRONG_OUTPUT, WRONG_PICTURES, WRONG_BAND, WRONG_STATE];
+const FAULTS: [u32; 7] = [
+    WRONG_TABLES,
+    NOTHING_ACTIVE,
+    WRONG_OUTPUT,
+    WRONG_PICTURES,
+    WRONG_FLOATS,
+    WRONG_BAND,
+    WRONG_STATE,
+];
 
 /// How many sets of faults there are, the empty one too; the seeds have them by turns.
 pub const FAULT_SETS: u64 = 1 << FAULTS.len();
@@ -169,10 +186,10 @@ struct Line {
 
 impl Line {
     fn spoil(&mut self, rng: &mut Rng, fault: u32) {
-        let Ready { display, tables, pictures } = &mut self.ready;
+        let Ready { display, tables, pictures, floats } = &mut self.ready;
         match fault {
             WRONG_STATE => self.state = rng.pick(&[0, 4, 436, 439, 441, 880]),
-            NOTHING_ACTIVE => spoil(rng, &mut display.active, NO_OUTPUT),
+            NOTHING_ACTIVE => spoil(rng, &mut display.active, NO_OUTPUT, Floats::With),
             WRONG_BAND => self.y = past(rng, display.active.height(), self.y),
             WRONG_OUTPUT => {
                 self.out = wrong_or(rng, self.out, display.active.output_len() as usize);
@@ -181,7 +198,8 @@ impl Line {
                 let others = display.bits.other().tables_len();
                 tables.resize(wrong_or(rng, display.bits.tables_len(), others), 0);
             }
-            _ => pictures.resize(wrong_len(rng, pictures.len()), 0),
+            WRONG_PICTURES => pictures.resize(wrong_len(rng, pictures.len()), 0),
+            _ => floats.resize(wrong_len(rng, floats.len()), 0),
         }
     }
 

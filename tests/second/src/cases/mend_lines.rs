@@ -117,13 +117,20 @@ fn base() -> Words {
 }
 
 /// Words to write over those. Layer 0 has the words from 4 on, layer 1 from 10, layer 5 from 34.
-const WRITES: [&[(usize, u32)]; 24] = [
+const WRITES: [&[(usize, u32)]; 29] = [
     &[],
-    // reserved bits: one; that of later float layers; in words without a layer; in the screen's
+    // reserved bits: one; in words without a layer; in the screen's
     &[(34, 0x701), (51, 1 << 31)],
-    &[(4, 0b101)],
     &[(0, u32::MAX), (2, u32::MAX), (3, u32::MAX)],
     &[(1, 0xF004_F008)],
+    // floats: bit 2 alone, on and off; beside bit 1, on and off; and too wide, too high, too far
+    &[(4, 0b101), (16, 0b100)],
+    &[(10, 0x207), (16, 0b110)],
+    &[(4, 0b101), (7, 0x0004_0009)],
+    &[(4, 0b101), (7, 0x0005_0008)],
+    &[(4, 0b101), (6, 0x0001_0001)],
+    // bits 1 and 2 of a layer that is too wide, and so is cut
+    &[(10, 0x207), (13, 0x0002_0009)],
     // no width, no height, no size; at a place where it stays
     &[(7, 0x0004_0000)],
     &[(7, 0x0000_0008), (13, 0x0000_0003), (37, 0)],

@@ -3,9 +3,11 @@
 
 use crate::cases::hosts::image_bytes;
 use crate::cases::scene::{self, pair, scene, Room};
+use crate::floats::Floats;
 use crate::mend::{Lent, LIST_LEN};
 use crate::rng::Rng;
-use crate::words::{layer_word, named_bits, Words, DEPTH_BITS, LAYERS, WORDS};
+use crate::words::{layer_word, named_bits, Words, LAYERS, WORDS};
+use crate::words::{DEPTH_BITS, FLOAT_BIT, GRAPHICS_BIT, KIND_BITS};
 
 /// The calls that the tests compare unless told otherwise, of the seeds from 0 on.
 pub const MENDS: u64 = 6_000;
@@ -72,7 +74,8 @@ fn any_words(rng: &mut Rng) -> Words {
 /// Words that pass every check of a start.
 fn passing(rng: &mut Rng) -> Words {
     let (width, height) = screen(rng);
-    let room = Room { width, height, frame_pixels: i64::MAX, now: rng.u32() };
+    let (frame_pixels, now) = (i64::MAX, rng.u32());
+    let room = Room { width, height, frame_pixels, now, floats: Floats::With };
     let mut words = scene(rng, room);
     words.0[0] = rng.u32() & named_bits(0);
     words
@@ -89,13 +92,19 @@ fn crowded(rng: &mut Rng) -> Words {
     let mut words = passing(rng);
     let depths: Vec<u32> = (0..rng.range(1, 4)).map(|_| rng.below(8) as u32).collect();
     let enabled_share = rng.pick(&[100, 100, 70]);
-    let room = Room { width: words.width(), height: words.height(), frame_pixels: 0, now: 0 };
+    let (width, height) = (words.width(), words.height());
+    let room = Room { width, height, frame_pixels: 0, now: 0, floats: Floats::With };
     for n in 0..LAYERS {
         scene::place(rng, &mut words, n, room);
-        let kind = u32::from(rng.percent(50)) << 1 | u32::from(rng.percent(enabled_share));
-        words.0[layer_word(n)] = kind | rng.pick(&depths) << 8;
+        words.0[layer_word(n)] = kind(rng, enabled_share) | rng.pick(&depths) << 8;
     }
     words
+}
+
+/// A layer on or off, of any kind; both bits of it are one too many.
+fn kind(rng: &mut Rng, enabled_share: i64) -> u32 {
+    let list = rng.pick(&[GRAPHICS_BIT, GRAPHICS_BIT, KIND_BITS]);
+    rng.pick(&[list, 0, FLOAT_BIT]) | u32::from(rng.percent(enabled_share))
 }
 
 /// A screen with layers that fit, stick out, are too large or have no size, each axis by itself.
@@ -110,8 +119,7 @@ fn scattered(rng: &mut Rng) -> Words {
             sizes.map(|size| if is_largest { (MOST, MOST) } else { span(rng, size) });
         let first = layer_word(n);
         let depth = if any_depth { rng.u32() & DEPTH_BITS } else { (n as u32) << 8 };
-        let kind = u32::from(rng.percent(50)) << 1 | u32::from(rng.percent(enabled_share));
-        words.0[first] = kind | depth;
+        words.0[first] = kind(rng, enabled_share) | depth;
         words.0[first + 2] = pair(across.0, down.0);
         words.0[first + 3] = pair(across.1, down.1);
     }
@@ -134,7 +142,7 @@ fn screen(rng: &mut Rng) -> (i64, i64) {
 /// A start and a length along an axis of a screen of that size.
 fn span(rng: &mut Rng, size: i64) -> (i64, i64) {
     let length = rng.range(1, size);
-    let (start, length) = match rng.below(17) {
+    let (start, length) = match rng.below(18) {
         0..=6 => scene::span(rng, size),
         7 => (size - length, length),
         8 | 9 => (size - length + 1, length),
@@ -142,7 +150,7 @@ fn span(rng: &mut Rng, size: i64) -> (i64, i64) {
         11 => (rng.range(0, 2), size + 1),
         12 => (rng.range(0, MOST), size + rng.range(1, MOST)),
         13 => (MOST, MOST),
-        14 | 15 => (rng.range(0, size + 1), 0),
+        14..=16 => (rng.range(0, size + 1), 0),
         _ => (rng.range(0, MOST), size),
     };
     (start.min(MOST), length.min(MOST))
@@ -166,10 +174,11 @@ fn take_screen(rng: &mut Rng, words: &mut Words) {
 
 // ---- sweeps
 
-/// A screen of one to three pixels or of the most, and on it a layer of either kind with every
-/// start and length near the screen's edges, across and down.
+/// A screen of one to three pixels or of the most, and on it a layer of each kind with every start
+/// and length near the screen's edges, across and down.
 pub fn axis_images() -> Vec<Vec<u8>> {
-    let axes = [0, 16].into_iter().flat_map(|low| [0b01, 0b11].map(|kind| (low, kind)));
+    let kinds = [0, GRAPHICS_BIT, FLOAT_BIT, KIND_BITS].map(|kind| 1 | kind);
+    let axes = [0, 16].into_iter().flat_map(|low| kinds.map(|kind| (low, kind)));
     let spans = axes.flat_map(|axis| near_spans().into_iter().map(move |span| (axis, span)));
     spans.map(|((low, kind), span)| image_bytes(&axis_words(low, kind, span))).collect()
 }

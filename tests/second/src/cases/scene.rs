@@ -2,17 +2,20 @@
 //! and faults in them.
 
 use crate::answers::*;
+use crate::floats::Floats;
 use crate::rng::Rng;
-use crate::words::{layer_word, named_bits, Words, DEPTH_BITS, LAYERS, WORDS};
+use crate::words::{layer_word, named_bits, Words, LAYERS, WORDS};
+use crate::words::{DEPTH_BITS, FLOAT_BIT, GRAPHICS_BIT, KIND_BITS};
 
-/// What a scene has to fit into: its screen, the pixels that frame layers may bring together, and
-/// the frame number near which fades begin.
+/// What a scene has to fit into: its screen, the pixels that frame layers may bring together, the
+/// frame number near which fades begin, and whether there may be float layers.
 #[derive(Clone, Copy)]
 pub struct Room {
     pub width: i64,
     pub height: i64,
     pub frame_pixels: i64,
     pub now: u32,
+    pub floats: Floats,
 }
 
 /// Two twelve bit numbers at 11:0 and 27:16.
@@ -33,7 +36,7 @@ pub fn scene(rng: &mut Rng, room: Room) -> Words {
     let mut pixels_left = room.frame_pixels;
     for (n, depth) in depths.into_iter().enumerate() {
         if !rng.percent(enabled_share) {
-            disable(rng, &mut words, n);
+            disable(rng, &mut words, n, room.floats);
             continue;
         }
         let pixels = place(rng, &mut words, n, room);
@@ -41,19 +44,45 @@ pub fn scene(rng: &mut Rng, room: Room) -> Words {
         if is_frame {
             pixels_left -= pixels;
         }
-        words.0[layer_word(n)] = 1 | u32::from(!is_frame) << 1 | depth << 8;
+        let kind = if is_frame { frame_kind(rng, room.floats) } else { GRAPHICS_BIT };
+        words.0[layer_word(n)] = 1 | kind | depth << 8;
         words.0[layer_word(n) + 1] = alpha_word(rng);
         write_fade(rng, &mut words, n, room.now);
     }
     words
 }
 
-/// A disabled layer is looked at for its reserved bits only, so all its other bits are anything.
-fn disable(rng: &mut Rng, words: &mut Words, n: usize) {
-    for register in layer_word(n)..layer_word(n + 1) {
+/// What says that a frame layer's picture is bytes, or floats, where it may.
+pub fn frame_kind(rng: &mut Rng, floats: Floats) -> u32 {
+    match floats {
+        Floats::With => rng.pick(&[0, FLOAT_BIT]),
+        Floats::Without => 0,
+    }
+}
+
+/// The kinds that a layer may have.
+fn kinds(floats: Floats) -> &'static [u32] {
+    match floats {
+        Floats::With => &[0, GRAPHICS_BIT, FLOAT_BIT],
+        Floats::Without => &[0, GRAPHICS_BIT],
+    }
+}
+
+/// Another kind for a layer's first word.
+pub fn other_kind(rng: &mut Rng, word: u32, floats: Floats) -> u32 {
+    let others: Vec<u32> =
+        kinds(floats).iter().copied().filter(|&kind| kind != word & KIND_BITS).collect();
+    word & !KIND_BITS | rng.pick(&others)
+}
+
+/// A disabled layer is looked at for its reserved bits and its kind only, so all its other bits are
+/// anything.
+fn disable(rng: &mut Rng, words: &mut Words, n: usize, floats: Floats) {
+    let first = layer_word(n);
+    for register in first..layer_word(n + 1) {
         words.0[register] = rng.u32() & named_bits(register);
     }
-    words.0[layer_word(n)] &= !1;
+    words.0[first] = words.0[first] & !(KIND_BITS | 1) | rng.pick(kinds(floats));
 }
 
 /// Puts a layer somewhere on the screen and answers how many pixels it has.
@@ -86,15 +115,20 @@ pub fn span(rng: &mut Rng, size: i64) -> (i64, i64) {
 /// block that is painted at once.
 pub fn pictures(rng: &mut Rng, length: usize) -> Vec<u8> {
     let mut bytes = rng.bytes(length);
-    let mut pixels = bytes.chunks_exact_mut(4);
+    alpha_runs(rng, &mut bytes, [0x00, 0xFF]);
+    bytes
+}
+
+/// Gives runs of pixels the one or the other alpha, or leaves them their own.
+pub fn alpha_runs<T: Copy>(rng: &mut Rng, values: &mut [T], [clear, opaque]: [T; 2]) {
+    let mut pixels = values.chunks_exact_mut(4);
     while pixels.len() > 0 {
         let run = rng.pick(&[1, 5, 15, 16, 17, 31, 50, 64]);
-        let alpha = rng.pick(&[None, Some(0x00), Some(0xFF)]);
+        let alpha = rng.pick(&[None, Some(clear), Some(opaque)]);
         for pixel in pixels.by_ref().take(run) {
             pixel[3] = alpha.unwrap_or(pixel[3]);
         }
     }
-    bytes
 }
 
 pub fn alpha_word(rng: &mut Rng) -> u32 {
@@ -134,7 +168,8 @@ pub fn nudge(rng: &mut Rng, words: &Words, room: Room) -> Words {
         for _ in 0..rng.range(1, 4) {
             change(rng, &mut next, room);
         }
-        if next.check() == DONE && next.pictures_len() <= 4 * room.frame_pixels {
+        let pixels = (next.pictures_len() + next.floats_len()) / 4;
+        if next.check(room.floats) == DONE && pixels <= room.frame_pixels {
             return next;
         }
     }
@@ -152,13 +187,13 @@ fn change(rng: &mut Rng, words: &mut Words, room: Room) {
             place(rng, words, n, room);
         }
         6 => words.0[first] ^= 1,
-        7 => words.0[first] ^= 2,
-        8 => words.0[first] = words.0[first] & 3 | (rng.below(8) as u32) << 8,
+        7 => words.0[first] = other_kind(rng, words.0[first], room.floats),
+        8 => words.0[first] = words.0[first] & !DEPTH_BITS | (rng.below(8) as u32) << 8,
         _ => {
             let other = layer_word(rng.below(LAYERS));
             let depths = [words.0[first] & DEPTH_BITS, words.0[other] & DEPTH_BITS];
-            words.0[first] = words.0[first] & 3 | depths[1];
-            words.0[other] = words.0[other] & 3 | depths[0];
+            words.0[first] = words.0[first] & !DEPTH_BITS | depths[1];
+            words.0[other] = words.0[other] & !DEPTH_BITS | depths[0];
         }
     }
 }
@@ -176,18 +211,17 @@ pub fn controller(rng: &mut Rng, words: &Words) -> usize {
 
 /// Gives the words one fault that a start refuses with that number, unless another fault comes
 /// first.
-pub fn spoil(rng: &mut Rng, words: &mut Words, answer: u32) {
+pub fn spoil(rng: &mut Rng, words: &mut Words, answer: u32, floats: Floats) {
     let n = rng.below(LAYERS);
     let first = layer_word(n);
     match answer {
-        RESERVED_BIT => {
-            let faulty: Vec<usize> =
-                (0..WORDS).filter(|&register| named_bits(register) != u32::MAX).collect();
-            let register = rng.pick(&faulty);
-            let reserved: Vec<u32> =
-                (0..32).filter(|bit| named_bits(register) >> bit & 1 == 0).collect();
-            words.0[register] |= 1 << rng.pick(&reserved);
-        }
+        RESERVED_BIT => match rng.below(8) {
+            0 | 1 => words.0[first] |= KIND_BITS,
+            2..=4 if floats == Floats::Without => {
+                words.0[first] = words.0[first] & !KIND_BITS | FLOAT_BIT;
+            }
+            _ => set_reserved_bit(rng, words),
+        },
         NO_OUTPUT => words.0[1] &= rng.pick(&[0x0FFF_0000, 0x0000_0FFF, 0]),
         EMPTY_LAYER => {
             words.0[first] |= 1;
@@ -197,6 +231,14 @@ pub fn spoil(rng: &mut Rng, words: &mut Words, answer: u32) {
         SAME_DEPTH => share_depth(rng, words),
         _ => unreachable!("no fault of the words gives {answer}"),
     }
+}
+
+fn set_reserved_bit(rng: &mut Rng, words: &mut Words) {
+    let faulty: Vec<usize> =
+        (0..WORDS).filter(|&register| named_bits(register) != u32::MAX).collect();
+    let register = rng.pick(&faulty);
+    let reserved: Vec<u32> = (0..32).filter(|bit| named_bits(register) >> bit & 1 == 0).collect();
+    words.0[register] |= 1 << rng.pick(&reserved);
 }
 
 /// Moves or widens a layer past one edge of the screen, by one pixel as a rule.
@@ -226,7 +268,7 @@ fn share_depth(rng: &mut Rng, words: &mut Words) {
     if let [first, second, ..] = enabled[..] {
         let depth = words.0[layer_word(first)] & DEPTH_BITS;
         let word = &mut words.0[layer_word(second)];
-        *word = *word & 3 | depth;
+        *word = *word & !DEPTH_BITS | depth;
         return;
     }
     let from = enabled.first().copied().unwrap_or(rng.below(LAYERS));

@@ -5,6 +5,7 @@
 use crate::answers::*;
 use crate::cases::scene::{controller, nudge, pictures, scene, spoil, Room};
 use crate::cases::{banks, form};
+use crate::floats::Floats;
 use crate::rng::Rng;
 use crate::sheet::{Line, Load, Sheet, Write, MOST_DIGITS, MOST_OUTPUT};
 use crate::tables::{Bank, Kind};
@@ -17,6 +18,9 @@ pub const LINES_A_SHEET: usize = 40;
 /// Pixels that frame layers bring at most: their bytes, a controller's four banks and the writes
 /// stay within a line.
 const FRAME_PIXELS: i64 = 470;
+
+/// The sheet program has no float buffer.
+const FLOATS: Floats = Floats::Without;
 
 /// Pixels of the largest screen that a line can paint.
 const SCREEN_PIXELS: i64 = 1_024;
@@ -71,7 +75,7 @@ impl Author {
         self.load_idle_banks(&mut line, &mut wish);
         for &fault in &faults {
             match fault {
-                RESERVED_BIT..=SAME_DEPTH => spoil(&mut self.rng, &mut wish, fault),
+                RESERVED_BIT..=SAME_DEPTH => spoil(&mut self.rng, &mut wish, fault, FLOATS),
                 NO_BANK | BANK_ACTIVE | BANK_FULL => self.spoil_loads(&mut line, fault),
                 _ => {}
             }
@@ -117,19 +121,20 @@ impl Author {
         // After a refused start the pending words are left behind and the active ones gone on from.
         let base = [display.pending(), display.active()]
             .into_iter()
-            .find(|words| words.check() == DONE)
+            .find(|words| words.check(FLOATS) == DONE)
             .cloned();
         let too_large =
             base.as_ref().is_some_and(|words| words.width() * words.height() > SCREEN_PIXELS);
         let new_share = if too_large { 60 } else { 14 };
+        let frame_pixels = FRAME_PIXELS;
+        let room = |width, height| Room { width, height, frame_pixels, now, floats: FLOATS };
         let mut wish = match base {
             Some(base) if !self.rng.percent(new_share) => {
-                let (width, height) = (base.width(), base.height());
-                nudge(&mut self.rng, &base, Room { width, height, frame_pixels: FRAME_PIXELS, now })
+                nudge(&mut self.rng, &base, room(base.width(), base.height()))
             }
             _ => {
                 let (width, height) = screen(&mut self.rng);
-                scene(&mut self.rng, Room { width, height, frame_pixels: FRAME_PIXELS, now })
+                scene(&mut self.rng, room(width, height))
             }
         };
         wish.0[0] |= 0b100;

@@ -30,10 +30,21 @@ fn flipped_bits() -> Vec<Words> {
     (0..WORDS).flat_map(|register| (0..32).map(move |bit| flip(register, bit))).collect()
 }
 
-/// Words that take the place of a passing one and are refused: 7 twice, 8 twice, and for each
+/// Those words with each kind of each layer, on and off: both bits of it are refused, and bit 2
+/// alone where there are no floats (02 K7).
+fn all_kinds() -> Vec<Words> {
+    let with_kind = |n: usize, kind: u32| {
+        let mut words = one_pixel();
+        words.0[layer_word(n)] = kind | (n as u32) << 8;
+        words
+    };
+    (0..LAYERS).flat_map(|n| (0..8).map(move |kind| with_kind(n, kind))).collect()
+}
+
+/// Words that take the place of a passing one and are refused: 7 thrice, 8 twice, and for each
 /// layer 9 and 10 on either axis, 11, and 14.
 fn faults() -> Vec<(usize, u32)> {
-    let mut faults = vec![(0, 0b111), (51, 1 << 31), (1, 1), (1, 1 << 16)];
+    let mut faults = vec![(0, 0b111), (51, 1 << 31), (1, 1), (1, 1 << 16), (4, 0b111)];
     for n in 0..LAYERS {
         let first = layer_word(n);
         let next_depth = ((n + 1) % LAYERS) as u32;
@@ -59,7 +70,7 @@ fn paired_faults() -> Vec<Words> {
 }
 
 fn swept_words() -> Vec<Words> {
-    [vec![one_pixel()], flipped_bits(), paired_faults()].concat()
+    [vec![one_pixel()], flipped_bits(), all_kinds(), paired_faults()].concat()
 }
 
 /// A line for each of the swept words, which writes what differs from the line before.

@@ -1,5 +1,6 @@
 //! What the line calls (02 K3) reach in the rows of calls from C and in the scripts.
 
+use crate::floats::{self, float_kinds, Painted};
 use crate::letters::{text_kinds, text_names};
 use crate::{assert_came, fade_kinds, Counts, FADES};
 use second::answers::*;
@@ -15,6 +16,7 @@ pub struct LineCall<'a> {
     pub tables: &'a [u8],
     /// How many bytes.
     pub pictures: usize,
+    pub floats: &'a [u32],
     pub old: &'a [u8],
     pub answer: u32,
     /// The error word.
@@ -46,7 +48,8 @@ fn place_name(y: u32, height: i64) -> &'static str {
 }
 
 /// What a line call can be refused with.
-const REFUSALS: [u32; 5] = [WRONG_TABLES, NOTHING_ACTIVE, WRONG_OUTPUT, WRONG_PICTURES, WRONG_BAND];
+const REFUSALS: [u32; 6] =
+    [WRONG_TABLES, NOTHING_ACTIVE, WRONG_OUTPUT, WRONG_PICTURES, WRONG_FLOATS, WRONG_BAND];
 
 fn is_due(line: &LineCall, answer: u32) -> bool {
     let active = line.before.active();
@@ -55,6 +58,7 @@ fn is_due(line: &LineCall, answer: u32) -> bool {
         NOTHING_ACTIVE => active.output_len() == 0,
         WRONG_OUTPUT => line.old.len() as i64 != active.line_len(),
         WRONG_PICTURES => line.pictures as i64 != active.pictures_len(),
+        WRONG_FLOATS => line.floats.len() as i64 != active.floats_len(),
         _ => i64::from(line.y) >= active.height(),
     }
 }
@@ -69,6 +73,10 @@ fn refused_kinds(line: &LineCall) -> Vec<String> {
         WRONG_OUTPUT => kinds.push(length_name(out, active.line_len())),
         WRONG_PICTURES if pictures > active.pictures_len() => kinds.push(LONG_PICTURES.into()),
         WRONG_PICTURES => kinds.push(SHORT_PICTURES.into()),
+        WRONG_FLOATS => {
+            let right = active.floats_len() as usize;
+            kinds.push(format!("with {}", floats::length_name(line.floats.len(), right)));
+        }
         _ => {}
     }
     let is_frame = line.answer == WRONG_OUTPUT && out == active.output_len();
@@ -114,7 +122,9 @@ fn painted_kinds(line: &LineCall) -> Vec<String> {
     ];
     let so = so.into_iter().filter(|(_, is_so)| *is_so).map(|(kind, _)| kind.into());
     let seen = on.into_iter().filter(|_| !is_dark).flat_map(|n| layer_kinds(line, n));
-    seen.chain(so).collect()
+    let y = i64::from(line.y);
+    let painted = Painted { words: active, floats: line.floats, band: 0..8, lines: y..y + 1 };
+    seen.chain(so).chain(float_kinds(&painted)).collect()
 }
 
 /// What is seen of a layer on the line: its fade and its glyphs.
@@ -187,6 +197,7 @@ pub fn assert_lines(counts: &Counts) {
     let orders = [(1, 0), (0, 0), (0, 1)].map(|(last, y)| order_name(last, y));
     let wrong = LENGTHS.into_iter().chain(orders).map(String::from).chain(pair_names(&REFUSALS));
     let seen = FADES.into_iter().map(String::from).chain(text_names());
+    let seen = seen.chain(floats::float_names());
     assert_came(counts, line_names("Line"), 15);
     assert_came(counts, wrong.map(|kind| format!("Line {kind}")), 15);
     assert_came(counts, seen.map(|kind| format!("Line {kind}")), 5);

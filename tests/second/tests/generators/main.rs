@@ -1,13 +1,16 @@
 //! What the seeded cases of the gate reach, with how often at least: every answer, kind of call,
-//! fade, order of depths and value of a glyph. `--nocapture` shows the counts.
+//! fade, order of depths, value of a glyph and kind of float. `--nocapture` shows the counts.
 
 mod doors;
+mod floats;
 mod letters;
 mod lines;
 mod mends;
 mod orders;
 mod runs;
 
+use floats::{assert_refused_kinds, float_fade_names, float_fades};
+use floats::{float_kinds, float_names, refused_kinds, Painted};
 use letters::{bits_name, text_kinds, text_names, value_names};
 use letters::{made_name, made_names, others_name, others_names};
 use lines::{line_kinds, line_names, LineCall};
@@ -17,6 +20,7 @@ use second::cases::{gen_order_row, gen_orders, gen_row, gen_sheet, HostCase};
 use second::cases::{EDGES, HOST_CALLS, LINES_A_SHEET, RECORDS_A_SCRIPT, SCRIPTS, SHEETS};
 use second::display::ITEM_LEN;
 use second::draw::List;
+use second::floats::Floats;
 use second::host::{host_frame, image_words};
 use second::script::*;
 use second::sheet::Sheet;
@@ -157,6 +161,8 @@ fn sheets_reach_everything() {
             if printed.starts_with(b"00") {
                 let (frame, tables) = (display.frame_number(), display.tables(&sheet.tables));
                 count(&mut counts, painted_kinds(display.active(), frame, tables, 0, 8));
+            } else if printed.starts_with(b"07") {
+                count(&mut counts, refused_kinds(display.pending(), Floats::Without));
             }
             frames.insert(printed);
         }
@@ -173,6 +179,7 @@ fn sheets_reach_everything() {
     assert_came(&counts, ["list without END", "list at global alpha"].map(String::from), 100);
     assert_came(&counts, depth_kinds(), 20);
     assert_came(&counts, value_names(Bits::One), 100);
+    assert_refused_kinds(&counts, Floats::Without, 1);
 }
 
 #[test]
@@ -184,7 +191,10 @@ fn host_calls_reach_everything() {
         let answer = host_frame(image, *frame, tables, pictures, &mut output.clone());
         count(&mut counts, [format!("answer {answer}")]);
         count(&mut counts, (answer == WRONG_TABLES).then(|| wrong_tables(tables.len())));
-        if answer == DONE {
+        if answer == RESERVED_BIT {
+            let words = image_words(image).expect("it is whole");
+            count(&mut counts, refused_kinds(&words, Floats::Without));
+        } else if answer == DONE {
             let words = image_words(image).expect("it is whole");
             let tables = Tables::by_length(tables);
             count(&mut counts, [format!("painted with {}", bits_name(tables.bits))]);
@@ -206,6 +216,7 @@ fn host_calls_reach_everything() {
     assert_came(&counts, text_names(), 50);
     let near = Bits::ALL.map(Bits::tables_len).map(|right| [right - 1, right + 1]).concat();
     assert_came(&counts, near.into_iter().chain([0]).map(wrong_tables), 10);
+    assert_refused_kinds(&counts, Floats::Without, 20);
 }
 
 /// Where a length of tables that is neither right one lies.
@@ -268,9 +279,7 @@ fn kinds(before: &Stage, call: Call, told: (u32, usize), after: &Stage) -> Vec<S
     let errors = (before.display.errors(), after.display.errors());
     kinds.extend(match call.letter {
         BAND => vec![band_kind(call.a, call.b, answer)],
-        START if answer != DONE && before.display.active().output_len() > 0 => {
-            vec!["start refused after a frame".into()]
-        }
+        START if answer != DONE => refused_start_kinds(before, answer),
         PUT_RUN | WRITE_RUN => run_kinds(before, call, told, after),
         NEW => vec![made_name(call.a, before.display.bits())],
         AGAIN => vec![again_name(call.a).into()],
@@ -287,6 +296,17 @@ fn kinds(before: &Stage, call: Call, told: (u32, usize), after: &Stage) -> Vec<S
     }
     if errors.1 & !errors.0 != 0 {
         kinds.push(format!("{letter} sets error bits"));
+    }
+    kinds
+}
+
+/// What of a layer's kind a start refuses, and whether something is shown.
+fn refused_start_kinds(before: &Stage, answer: u32) -> Vec<String> {
+    let is_shown = before.display.active().output_len() > 0;
+    let mut kinds: Vec<String> =
+        is_shown.then(|| "start refused after a frame".into()).into_iter().collect();
+    if answer == RESERVED_BIT {
+        kinds.extend(refused_kinds(before.display.pending(), before.display.floats()));
     }
     kinds
 }
@@ -343,6 +363,7 @@ fn line_call<'a>(before: &'a Stage, call: Call, answer: u32, after: &'a Stage) -
         y: call.a,
         tables: &before.tables[..before.lent.tables],
         pictures: before.lent.pictures,
+        floats: &before.floats[..before.lent.floats],
         old: &before.out[call.lent_out(before.lent.out)],
         answer,
         errors: after.display.errors(),
@@ -368,6 +389,11 @@ fn painting_kinds(before: &Stage, call: Call, after: &Stage) -> Vec<String> {
         ("in a fade", kinds.contains("fade on its way")),
     ];
     kinds.extend(so.iter().filter(|(_, is_so)| *is_so).map(|(kind, _)| format!("{letter} {kind}")));
+    let floats = &before.floats[..before.lent.floats];
+    let lines = 0..active.height();
+    let painted = Painted { words: active, floats, band: low..high, lines };
+    kinds.extend(float_kinds(&painted).into_iter().map(|kind| format!("{letter} {kind}")));
+    kinds.extend(float_fades(active, frame).into_iter().filter(|_| call.letter != FILL));
     kinds.into_iter().collect()
 }
 
@@ -384,17 +410,24 @@ fn band_kind(low: u32, high: u32, answer: u32) -> String {
     }
 }
 
-/// Whether a buffer that a refused call was lent is too short or too long.
+/// Whether a buffer that a refused call was lent is too short or too long, or both pictures and
+/// floats are wrong.
 fn wrong_lengths(before: &Stage, call: Call, answer: u32) -> Option<String> {
     let active = before.display.active();
+    let letter = call.letter as char;
+    let is_other = |lent: usize, right: i64| lent as i64 != right;
+    if answer == WRONG_PICTURES && is_other(before.lent.floats, active.floats_len()) {
+        return Some(format!("{letter} where 14 and 18 are due"));
+    }
     let (lent, right) = match answer {
         WRONG_TABLES => (before.lent.tables, before.display.bits().tables_len()),
         WRONG_OUTPUT => (before.lent.out, active.output_len() as usize),
         WRONG_PICTURES => (before.lent.pictures, active.pictures_len() as usize),
+        WRONG_FLOATS => (before.lent.floats, active.floats_len() as usize),
         _ => return None,
     };
     let wrong = if lent < right { "too short" } else { "too long" };
-    Some(format!("{} answers {answer}, {wrong}", call.letter as char))
+    Some(format!("{letter} answers {answer}, {wrong}"))
 }
 
 /// How often each kind comes in a script.
@@ -410,12 +443,25 @@ fn count_kinds(calls: &[Call], counts: &mut Counts) {
     count(counts, shown.map(|_| "start right after X".into()));
 }
 
+/// The records that make no call of the display.
+const OTHERS: [u8; 10] = [
+    NEW,
+    LEND,
+    FILL_TABLES,
+    FILL_PICTURES,
+    FILL_FLOATS,
+    FILL_OUT,
+    TABLE_WORD,
+    PICTURE_WORD,
+    FLOAT,
+    VIEW,
+];
+
 /// The kinds that every script of the gate's length has to have, named as `kinds` names them.
 fn wanted_kinds() -> Vec<String> {
-    let numbers = (DONE..=WRONG_BAND).chain([WRONG_BITS]);
+    let numbers = (DONE..=WRONG_BAND).chain([WRONG_BITS, WRONG_FLOATS]);
     let mut wanted: Vec<String> = numbers.map(|n| format!("answer {n}")).collect();
-    let others = [NEW, LEND, FILL_TABLES, FILL_PICTURES, FILL_OUT, TABLE_WORD, PICTURE_WORD, VIEW];
-    wanted.extend(CALLS.iter().chain(&others).map(|&letter| (letter as char).to_string()));
+    wanted.extend(CALLS.iter().chain(&OTHERS).map(|&letter| (letter as char).to_string()));
     wanted.extend((0..ITEM_LEN).map(|n| format!("X with {n} bytes over")));
     for letter in ["F", "B", "R"] {
         wanted.push(format!("{letter} over a dirty buffer"));
@@ -450,6 +496,22 @@ fn wanted_kinds() -> Vec<String> {
     wanted
 }
 
+/// What they have of floats. Of what the generated scripts store among them, few numbers lie on a
+/// line that is painted.
+fn wanted_floats(letters: &[&str]) -> Vec<String> {
+    let painted = |letter| float_names().into_iter().map(move |kind| format!("{letter} {kind}"));
+    letters.iter().flat_map(painted).collect()
+}
+
+/// How wrong lengths of them are refused.
+fn refused_floats() -> Vec<String> {
+    let both = ["B", "R", "Y"].map(|letter| format!("{letter} where 14 and 18 are due"));
+    let lengths = ["B", "R"].map(|letter| {
+        ["too short", "too long"].map(|wrong| format!("{letter} answers {WRONG_FLOATS}, {wrong}"))
+    });
+    both.into_iter().chain(lengths.concat()).collect()
+}
+
 /// What they have of glyphs of one bit and two.
 fn wanted_letters() -> Vec<String> {
     [text_names(), others_names(&["P", "U", "B", "R", "Y"])].concat()
@@ -479,6 +541,11 @@ fn scripts_reach_everything() {
     assert_came(&counts, ["list without END", "list at global alpha"].map(String::from), 100);
     assert_came(&counts, depth_kinds(), 10);
     assert_came(&counts, made_names(), 5);
+    assert_came(&counts, wanted_floats(&["B", "R"]), 3);
+    assert_came(&counts, (0..LAYERS).map(|n| format!("Y floats of layer {n}")), 2);
+    assert_came(&counts, float_fade_names(), 2);
+    assert_came(&counts, refused_floats(), 1);
+    assert_refused_kinds(&counts, Floats::Without, 1);
 }
 
 #[test]
@@ -490,6 +557,9 @@ fn the_script_of_the_gate_has_every_kind() {
     assert_came(&counts, wanted_letters(), 1);
     assert_came(&counts, line_names("Y"), 1);
     assert_came(&counts, made_names(), 1);
+    assert_came(&counts, wanted_floats(&["B", "R", "Y"]), 1);
+    assert_came(&counts, refused_floats(), 1);
+    assert_refused_kinds(&counts, Floats::Without, 2);
 }
 
 /// A case's number is its seed: the same seed gives the same case, another one another.

@@ -6,7 +6,7 @@ use second::cases::{gate_lines, gen_mend, gen_page, LINES_A_PAGE, MENDS, PAGES};
 use second::host::{image_words, IMAGE_LEN};
 use second::mend::mend;
 use second::sheet::{read_digits, read_lines};
-use second::words::{layer_word, named_bits, Layer, Words, LAYERS};
+use second::words::{layer_word, named_bits, Layer, Words, KIND_BITS, LAYERS};
 
 /// What is done to an image, by names; of its layers with their numbers or without.
 fn kinds(image: &[u8], layer_name: fn(usize) -> String) -> Vec<String> {
@@ -70,9 +70,13 @@ fn layer_kinds(old: &Words, new: &Words, n: usize) -> Vec<String> {
     let (before, after) = (old.layer(n), new.layer(n));
     let off = |m: usize| !new.layer(m).enabled && new.layer(m).depth == after.depth;
     let is_given = after.enabled && before.depth != after.depth;
+    let has_both = old.0[layer_word(n)] & KIND_BITS == KIND_BITS;
     let so = [
         ("reserved bits", (layer_word(n)..layer_word(n + 1)).any(|r| has_reserved(old, r))),
-        ("bit 2", old.0[layer_word(n)] & 0b100 != 0),
+        ("bit 2 alone, on", before.enabled && before.float),
+        ("bit 2 alone, off", !before.enabled && before.float),
+        ("bits 1 and 2, on", before.enabled && has_both),
+        ("bits 1 and 2, off", !before.enabled && has_both),
         ("given a depth", is_given),
         ("given the depth of a layer that is off", is_given && (0..LAYERS).any(off)),
         ("off as it came", !before.enabled),
@@ -80,7 +84,7 @@ fn layer_kinds(old: &Words, new: &Words, n: usize) -> Vec<String> {
     let mut kinds: Vec<String> =
         so.into_iter().filter(|(_, is_so)| *is_so).map(|(kind, _)| kind.into()).collect();
     if before.enabled && after.enabled {
-        let kind = if before.graphics { "list" } else { "picture" };
+        let kind = kind_name(&before);
         let [across, down] = places(old, &before).map(place_name);
         kinds.extend([format!("{kind}, across {across}"), format!("{kind}, down {down}")]);
     } else if before.enabled {
@@ -105,16 +109,24 @@ fn place_name([start, length, screen]: [i64; 3]) -> &'static str {
     }
 }
 
+fn kind_name(layer: &Layer) -> &'static str {
+    match (layer.graphics, layer.float) {
+        (true, _) => "list",
+        (_, true) => "floats",
+        _ => "picture",
+    }
+}
+
 fn off_name(words: &Words, layer: &Layer) -> String {
-    let kind = if layer.graphics { "list" } else { "picture" };
+    let kind = kind_name(layer);
     let is_larger = (layer.width > words.width(), layer.height > words.height());
     match (layer.width, layer.height, is_larger) {
         (0, 0, _) => format!("{kind}, off without a size"),
         (0, ..) => format!("{kind}, off without a width"),
         (_, 0, _) => format!("{kind}, off without a height"),
-        (.., (true, true)) => "picture, off for both".into(),
-        (.., (true, false)) => "picture, off for its width alone".into(),
-        _ => "picture, off for its height alone".into(),
+        (.., (true, true)) => format!("{kind}, off for both"),
+        (.., (true, false)) => format!("{kind}, off for its width alone"),
+        _ => format!("{kind}, off for its height alone"),
     }
 }
 
@@ -122,21 +134,25 @@ fn off_name(words: &Words, layer: &Layer) -> String {
 fn layer_names(n: usize) -> Vec<String> {
     let places = ["past by one", "far past", "at the far edge", "amid"];
     let large = ["too large by one", "far too large"];
+    let bits = ["bit 2 alone, on", "bit 2 alone, off", "bits 1 and 2, on", "bits 1 and 2, off"];
     let mut names: Vec<String> =
-        ["reserved bits", "bit 2", "off as it came"].map(Into::into).into();
+        ["reserved bits", "off as it came"].into_iter().chain(bits).map(Into::into).collect();
     for axis in ["across", "down"] {
-        let pictures = places.iter().map(|place| format!("picture, {axis} {place}"));
+        let of_frames =
+            ["picture", "floats"].map(|kind| places.map(|place| format!("{kind}, {axis} {place}")));
+        let pictures = of_frames.concat();
         let lists = places.iter().chain(&large).map(|place| format!("list, {axis} {place}"));
-        names.extend(pictures.chain(lists));
+        names.extend(pictures.into_iter().chain(lists));
     }
-    for kind in ["list", "picture"] {
+    for kind in ["list", "picture", "floats"] {
         names.extend(
             ["a size", "a width", "a height"].map(|it| format!("{kind}, off without {it}")),
         );
     }
-    names.extend(
-        ["both", "its width alone", "its height alone"].map(|it| format!("picture, off for {it}")),
-    );
+    for kind in ["picture", "floats"] {
+        let off = ["both", "its width alone", "its height alone"];
+        names.extend(off.map(|it| format!("{kind}, off for {it}")));
+    }
     let depths = ["given a depth", "given the depth of a layer that is off"].map(String::from);
     names.extend(depths.into_iter().filter(|_| n > 0));
     names
@@ -169,7 +185,7 @@ fn images_reach_everything() {
     assert_came(&counts, image_names(), 20);
     for n in 0..LAYERS {
         let names = layer_names(n).into_iter().map(|kind| format!("{}: {kind}", numbered(n)));
-        assert_came(&counts, names, 15);
+        assert_came(&counts, names, 10);
     }
     let short = [0, 1, 4].map(|length| format!("{length} bytes"));
     let others = [204, 207, 209, 212, 416].map(|length| format!("{length} bytes, with a screen"));
@@ -241,14 +257,14 @@ fn pages_reach_everything() {
     assert_came(&counts, image_names(), 10);
     for n in 0..LAYERS {
         let names = layer_names(n).into_iter().map(|kind| format!("{}: {kind}", numbered(n)));
-        assert_came(&counts, names, 8);
+        assert_came(&counts, names, 4);
     }
     let pages = ["a last line without its feed", "a line longer than a block"];
     assert_came(&counts, pages.map(String::from), 5);
 }
 
-/// What the lines of the gate have, once at least: not of every layer, and not every number of
-/// depths.
+/// What the lines of the gate have, once at least: not of every layer, not every number of depths,
+/// and of floats what a picture does not tell.
 #[test]
 fn the_lines_of_the_gate_have_every_kind() {
     let mut counts = Counts::new();
@@ -263,6 +279,9 @@ fn the_lines_of_the_gate_have_every_kind() {
     let others =
         ["passes already", "one bit from passing", "answer 0", "answer 8"].map(String::from);
     assert_came(&counts, words.chain(depths).chain(others), 1);
-    assert_came(&counts, layer_names(1).into_iter().map(|kind| format!("a layer: {kind}")), 1);
-    assert!((20..=40).contains(&read_lines(&page).len()));
+    let floats = ["across past by one", "off for its width alone", "off for its height alone"];
+    let floats = floats.map(|kind| format!("floats, {kind}"));
+    let kinds = layer_names(1).into_iter().filter(|kind| !kind.starts_with("floats"));
+    assert_came(&counts, kinds.chain(floats).map(|kind| format!("a layer: {kind}")), 1);
+    assert!((20..=50).contains(&read_lines(&page).len()));
 }

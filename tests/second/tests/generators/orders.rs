@@ -6,6 +6,7 @@ use second::answers::*;
 use second::cases::{arrangement, gen_order_row, gen_orders, ORDERS, TURNS};
 use second::display::{Display, Painting};
 use second::doors::{self, Door, Step, STATE};
+use second::floats::Floats;
 use second::script::{self, AGAIN, MOST_TIMES, START};
 use second::state::{read_state, STATE_LEN};
 use second::words::Words;
@@ -41,7 +42,7 @@ impl Since {
 
     /// The host has changed the bytes of a state.
     fn stored(&mut self, display: &Display) {
-        let is_shared = display.active().check() == SAME_DEPTH;
+        let is_shared = display.active().check(Floats::With) == SAME_DEPTH;
         self.events.push("words by hand".into());
         self.events.extend(is_shared.then(|| "layers of one depth by hand".into()));
     }
@@ -64,7 +65,8 @@ impl Since {
 
 /// How layers and pictures of words differ from those of the words before.
 fn differences(old: &Words, new: &Words) -> Vec<&'static str> {
-    let ((old_order, old_places), (order, places)) = (arrangement(old), arrangement(new));
+    let (old_order, [old_places, old_floats]) = arrangement(old);
+    let (order, [places, floats]) = arrangement(new);
     let has_same_layers =
         old_order.len() == order.len() && order.iter().all(|n| old_order.contains(n));
     let so = [
@@ -73,17 +75,21 @@ fn differences(old: &Words, new: &Words) -> Vec<&'static str> {
         old_order.len() > order.len(),
         old_places != places,
         old_places.last() != places.last(),
-        old_order == order && old_places == places,
+        old_floats != floats,
+        old_floats.last() != floats.last(),
+        arrangement(old) == arrangement(new),
     ];
     DIFFERENCES.into_iter().zip(so).filter(|(_, is_so)| *is_so).map(|(name, _)| name).collect()
 }
 
-const DIFFERENCES: [&str; 6] = [
+const DIFFERENCES: [&str; 8] = [
     "another order of the same layers",
     "more layers",
     "fewer layers",
     "other places of pictures",
     "another total of pictures",
+    "other places of floats",
+    "another total of floats",
     "no difference",
 ];
 
@@ -101,7 +107,9 @@ fn assert_orders(counts: &Counts) {
     assert_after(counts, &starts.map(String::from), 20);
     let refused = [7, 8, 9, 10, 11].map(|n| format!("a start refused with {n}"));
     assert_after(counts, &refused, 5);
-    assert_came(counts, PAINTINGS.map(|name| format!("{name} answers {WRONG_PICTURES}")), 10);
+    for answer in [WRONG_PICTURES, WRONG_FLOATS] {
+        assert_came(counts, PAINTINGS.map(|name| format!("{name} answers {answer}")), 10);
+    }
 }
 
 #[test]

@@ -26,8 +26,8 @@ fn one_depth() -> Figure {
 
 /// Width and height stay 4,095, the most that twelve bits hold, so no layer is larger than the
 /// screen; at 4,095 each sticks out, and with the whole screen's size it only fits at 0. All have
-/// bit 1, so they are graphics layers, and depth 7: layer 0 keeps it, and 1 to 7 get 0 to 6. Words
-/// 3 and 8 + 6n have no reserved bits.
+/// bit 1 and lose bit 2, so they are graphics layers, and depth 7: layer 0 keeps it, and 1 to 7 get
+/// 0 to 6. Words 3 and 8 + 6n have no reserved bits.
 fn all_bits() -> Figure {
     const ALL: u32 = u32::MAX;
     let layer = |n: usize| {
@@ -41,7 +41,7 @@ fn all_bits() -> Figure {
 
 /// On a screen of 8 columns and 4 lines. Layer 0 has the words from 4 on, layer 1 from 10, layer 2
 /// from 16, layer 3 from 22; y and height are in the upper half of their words.
-const ON_EIGHT_BY_FOUR: [(&str, &[Word]); 9] = [
+const ON_EIGHT_BY_FOUR: [(&str, &[Word]); 13] = [
     // Layer 1 has layer 0's depth 0. 1 is layer 2's, so 2 is the smallest that none had.
     (
         "depths 0, 0 and 1",
@@ -92,9 +92,35 @@ const ON_EIGHT_BY_FOUR: [(&str, &[Word]); 9] = [
             (22, 0x600, 0x600),
         ],
     ),
-    // Bits 2 and 11 of a layer's first word, bit 12 of its width and bit 31 of its height are
+    // Bits 3 and 11 of a layer's first word, bit 12 of its width and bit 31 of its height are
     // reserved: without them it is a picture of depth 7 that has 8 by 4 pixels.
-    ("reserved bits alone", &[(4, 0xF05, 0x701), (7, 0x8004_1008, 0x4_0008)]),
+    ("reserved bits alone", &[(4, 0xF09, 0x701), (7, 0x8004_1008, 0x4_0008)]),
+    // Bit 2 alone says that a picture is floats, and stays.
+    ("a picture of floats", &[(4, 0x705, 0x705), (7, 0x4_0008, 0x4_0008), (10, 0x004, 0x004)]),
+    // Beside bit 1 it goes, on and off. Layer 0 is a list then, and cut where a picture would go.
+    (
+        "bits 1 and 2",
+        &[(4, 0x007, 0x003), (7, 0x5_0009, 0x4_0008), (10, 0x006, 0x002), (16, 0x406, 0x402)],
+    ),
+    // A float layer is a frame layer: too large, and it is switched off, with bit 2 kept; as large
+    // as the screen, and it is moved.
+    (
+        "floats too wide, too high and at 1, 1",
+        &[
+            (4, 0x105, 0x104),
+            (7, 0x4_0009, 0x4_0009),
+            (10, 0x205, 0x204),
+            (13, 0x5_0008, 0x5_0008),
+            (16, 0x305, 0x305),
+            (18, 0x1_0001, 0),
+            (19, 0x4_0008, 0x4_0008),
+        ],
+    ),
+    // Their depths are parted like others'.
+    (
+        "floats of depth 2, twice",
+        &[(4, 0x205, 0x205), (7, 0x1_0001, 0x1_0001), (10, 0x205, 0x005), (13, 0x1_0001, 0x1_0001)],
+    ),
 ];
 
 fn figures() -> Vec<Figure> {

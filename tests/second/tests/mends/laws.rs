@@ -6,9 +6,11 @@ use crate::{our_call, with_fault, Call, Fault};
 use second::answers::*;
 use second::beside::{try_all, Mended, Mends, Tried};
 use second::cases::{gen_mend, MendCase, MENDS};
+use second::floats::Floats;
 use second::host::image_words;
 use second::mend::Lent;
-use second::words::{layer_word, named_bits, Words, DEPTH_BITS, LAYERS, WORDS};
+use second::words::{layer_word, named_bits, Words, LAYERS, WORDS};
+use second::words::{DEPTH_BITS, FLOAT_BIT, GRAPHICS_BIT, KIND_BITS};
 
 /// An image before and after, as words.
 struct Pair {
@@ -51,10 +53,16 @@ fn is_its_list(pair: &Pair, before: &[u32], list: &[u32], count: u64) -> Result<
     law(undone == pair.old, "the list undone does not make the old image")
 }
 
+/// What the first step leaves of a word: its reserved bits go, and "bit 2 where bit 1 is set too".
+fn cleared(words: &Words, register: usize) -> u32 {
+    let word = words.0[register] & named_bits(register);
+    let is_first = (0..LAYERS).any(|n| layer_word(n) == register);
+    word & !if is_first && word & GRAPHICS_BIT != 0 { FLOAT_BIT } else { 0 }
+}
+
 /// What no step changes but the first: all words but those of a layer's kind, place and size; and
 /// of a layer that is off afterwards those too, but for the bit that says so.
 fn is_kept(pair: &Pair) -> Result<(), String> {
-    let kept = |register: usize| pair.old.0[register] & named_bits(register);
     let is_shown = |n: usize| pair.new.layer(n).enabled;
     for register in 0..WORDS {
         let (n, part) = (register.wrapping_sub(4) / 6, register.wrapping_sub(4) % 6);
@@ -65,14 +73,14 @@ fn is_kept(pair: &Pair) -> Result<(), String> {
             _ if is_shown(n) => u32::MAX,
             _ => 0,
         };
-        let changed = kept(register) ^ pair.new.0[register];
+        let changed = cleared(&pair.old, register) ^ pair.new.0[register];
         law(changed & !may_change == 0, format!("word {register} is changed by {changed:08X}"))?;
     }
     Ok(())
 }
 
-/// Only layers without a size, and frame layers that are too large, are switched off; none is
-/// switched on.
+/// Only layers without a size, and frame layers that are too large, float layers too, are switched
+/// off; none is switched on.
 fn is_shown_rightly(pair: &Pair, n: usize) -> Result<(), String> {
     let (old, new) = (pair.old.layer(n), pair.new.layer(n));
     let is_larger = old.width > pair.old.width() || old.height > pair.old.height();
@@ -142,8 +150,9 @@ fn laws(call: Call, seed: u64) -> Tried {
     }
     let [old, new] =
         [&case.lent.image, &left.image].map(|image| image_words(image).expect("it is whole"));
-    law(new.check() == DONE, format!("a start answers {}", new.check()))?;
-    let passed = old.check() == DONE;
+    let [before, after] = [&old, &new].map(|words| words.check(Floats::With));
+    law(after == DONE, format!("a start answers {after}"))?;
+    let passed = before == DONE;
     let pair = Pair { old, new };
     is_its_list(&pair, &case.lent.list, &left.list, left.count)?;
     is_kept(&pair)?;
@@ -204,10 +213,17 @@ const FAULTS: [(&str, Fault); 9] = [
 type Edit = fn(&Words, &mut Words);
 
 /// What a law says of calls that mend wrongly, and list what they do.
-const EDITS: [(&str, Edit); 6] = [
+const EDITS: [(&str, Edit); 10] = [
     ("a start answers 7", |old, new| new.0[9] |= old.0[9] & 1 << 31),
+    ("a start answers 7", |old, new| new.0[28] |= old.0[28] & FLOAT_BIT),
+    // Of two bits that a kind has the other one goes, or bit 2 where it is alone.
+    ("word 28 is changed by 00000006", |old, new| {
+        new.0[28] ^= if old.0[28] & KIND_BITS == KIND_BITS { KIND_BITS } else { 0 }
+    }),
+    ("word 28 is changed by 00000004", |_, new| new.0[28] &= !FLOAT_BIT),
     ("word 3 is changed", |_, new| new.0[3] = 0),
     ("is on: false", without_lists),
+    ("is on: true", with_large_floats),
     ("across goes from", one_farther),
     ("the depths", lone_to_the_back),
     // The display is switched on.
@@ -218,8 +234,22 @@ const EDITS: [(&str, Edit); 6] = [
 fn without_lists(old: &Words, new: &mut Words) {
     for n in (0..LAYERS).filter(|&n| old.layer(n).width > old.width()) {
         let words = layer_word(n)..layer_word(n + 1);
-        words.for_each(|register| new.0[register] = old.0[register] & named_bits(register));
+        words.for_each(|register| new.0[register] = cleared(old, register));
         new.0[layer_word(n)] &= !1;
+    }
+}
+
+/// A float layer that is too wide is cut, as a list is, and given a depth that none has.
+fn with_large_floats(old: &Words, new: &mut Words) {
+    let is_off = |n: &usize| old.layer(*n).width > old.width() && old.layer(*n).height > 0;
+    let off = (0..LAYERS).filter(is_off).find(|&n| old.layer(n).enabled && old.layer(n).float);
+    if let Some(n) = off {
+        let shown: Vec<u32> = new.order().into_iter().map(|m| new.layer(m).depth).collect();
+        let depth = (0..8).find(|depth| !shown.contains(depth)).expect("it is off itself");
+        let word = &mut new.0[layer_word(n)];
+        *word = *word & !DEPTH_BITS | 1 | depth << 8;
+        new.0[layer_word(n) + 2] = 0;
+        new.0[layer_word(n) + 3] = new.0[1];
     }
 }
 

@@ -164,7 +164,7 @@ fn with_fault(fault: Fault, case: &MendCase) -> Mended {
 }
 
 /// What is said of calls that are known to be wrong.
-const IMPOSTORS: [(&str, Fault); 8] = [
+const IMPOSTORS: [(&str, Fault); 9] = [
     ("it answers 8, we answer 16", |_, told| {
         told.0 = if told.0 == WRONG_IMAGE { NO_OUTPUT } else { told.0 }
     }),
@@ -175,10 +175,16 @@ const IMPOSTORS: [(&str, Fault); 8] = [
             told.2.image[0] &= 0b101;
         }
     }),
-    // Bit 2 of layer 7 stays.
+    // Bit 2 of layer 7 stays, also where bit 1 is set too.
     ("byte 184 of the image", |case, told| {
         if told.0 == DONE {
             told.2.image[184] |= case.lent.image[184] & 0b100;
+        }
+    }),
+    // Bit 2 of layer 6 goes, also where it is alone.
+    ("byte 160 of the image", |_, told| {
+        if told.0 == DONE {
+            told.2.image[160] &= !0b100;
         }
     }),
     ("number 1 of the list", |_, told| {

@@ -17,7 +17,7 @@ same-length c = search needs
 returns : tie.Need-returns
 unfolding frameTold paintTold frameBytes
 returns c =
-    let d = c .before .before .before .before .before .before .before .before .before .before .before .args .t1 in (
+    let d = c .before .before .before .before .before .before .before .before .before .before .before .before .args .t1 in (
       ap (λ (p : Painted). told (withErrors d (p .errors)) (p .answer))
           (c .before .before .frame .ensures .0),
       c .before .before .frame .ensures .1,

@@ -7,8 +7,8 @@ use Rattle.display.proofs.doors.put_back.Tie as tie
 flag-of-requires : tie.Need-flag-of-requires
 flag-of-requires c κs = search needs
 
-flag-of-requires-2 : tie.Need-flag-of-requires-2
-flag-of-requires-2 c κs = search needs
+choices-of-requires : tie.Need-choices-of-requires
+choices-of-requires c κs = search needs
 
 sub-put-words : tie.Need-sub-put-words
 sub-put-words c = search needs
@@ -56,9 +56,9 @@ returns : tie.Need-returns
 returns c =
     let flags = c .before .before .before .before .before .before .before .before .before .before .before .before
     .before .before .before .before .before .before .before in
-    let start = flags .before .before .before in
+    let start = flags .before .before .before .before in
     state-bytes _ (start .args .state .now) _ _ _ _ _ (search needs) (search needs) (start .pre)
-    (flags .before .flag-of .ensures) (flags .flag-of2 .ensures)
+    (flags .before .before .flag-of .ensures) (flags .choices-of .ensures)
     (c .before .before .before .before .before .before .before .before .before .before .before .before .before
     .before .put-words .ensures) (c .before .before .before .before .before .before .before .put-words2 .ensures)
     (c .before .before .put-words3 .ensures)
@@ -68,7 +68,7 @@ put-back-spec =
     tie.close
     (tie.spec
     flag-of-requires
-    flag-of-requires-2
+    choices-of-requires
     sub-put-words
     part-put-words-start
     part-put-words-end

@@ -8,12 +8,12 @@ use Rattle.figures.proofs.script.run.Statement.{statement}
 use Rattle.figures.proofs.script.run.Tie as tie
 
 abbrev Inv-loop : tie.InvT-loop
-Inv-loop tables₀ pictures₀ out₀ text₀ turns₀ s₀ more₀ tables pictures out text turns s more =
-    (length tables ≡ length tables₀) × (length pictures ≡ length pictures₀) × (length out ≡ length out₀)
-    × Arranged (s .state)
+Inv-loop tables₀ pictures₀ floats₀ out₀ text₀ turns₀ s₀ more₀ tables pictures floats out text turns s more =
+    (length tables ≡ length tables₀) × (length pictures ≡ length pictures₀) × (length floats ≡ length floats₀)
+    × (length out ≡ length out₀) × Arranged (s .state)
 
 abbrev μ-loop : tie.MeasureT-loop
-μ-loop tables₀ pictures₀ out₀ text₀ turns₀ s₀ more₀ tables pictures out text turns s more = turns
+μ-loop tables₀ pictures₀ floats₀ out₀ text₀ turns₀ s₀ more₀ tables pictures floats out text turns s more = turns
 
 fresh-requires : tie.Need-fresh-requires Inv-loop μ-loop
 fresh-requires c κs = search needs
@@ -38,8 +38,8 @@ loop-less c = search needs
 
 loop-again : tie.Need-loop-again Inv-loop μ-loop
 loop-again c =
-    let b = c .before .before .before .before .before .before .before .before in
-    (search needs, search needs, search needs, b .turn .ensures)
+    let b = c .before .before .before .before .before .before .before .before .before .before in
+    (search needs, search needs, search needs, search needs, b .turn .ensures)
 
 same-length : tie.Need-same-length Inv-loop μ-loop
 same-length c = search needs
@@ -50,17 +50,23 @@ same-length-2 c = search needs
 same-length-3 : tie.Need-same-length-3 Inv-loop μ-loop
 same-length-3 c = search needs
 
-returns : tie.Need-returns Inv-loop μ-loop
-returns c = search needs
-
 same-length-4 : tie.Need-same-length-4 Inv-loop μ-loop
 same-length-4 c = search needs
+
+returns : tie.Need-returns Inv-loop μ-loop
+returns c = search needs
 
 same-length-5 : tie.Need-same-length-5 Inv-loop μ-loop
 same-length-5 c = search needs
 
 same-length-6 : tie.Need-same-length-6 Inv-loop μ-loop
 same-length-6 c = search needs
+
+same-length-7 : tie.Need-same-length-7 Inv-loop μ-loop
+same-length-7 c = search needs
+
+same-length-8 : tie.Need-same-length-8 Inv-loop μ-loop
+same-length-8 c = search needs
 
 returns-2 : tie.Need-returns-2 Inv-loop μ-loop
 returns-2 c = search needs
@@ -82,8 +88,10 @@ run-spec =
     same-length
     same-length-2
     same-length-3
-    returns
     same-length-4
+    returns
     same-length-5
     same-length-6
+    same-length-7
+    same-length-8
     returns-2)

@@ -25,8 +25,8 @@ put-often-requires c κs = search needs
 fill-requires : tie.Need-fill-requires
 fill-requires c κs = search needs
 
-paint-often-requires : tie.Need-paint-often-requires
-paint-often-requires c κs = search needs
+paint-lent-requires : tie.Need-paint-lent-requires
+paint-lent-requires c κs = search needs
 
 returns : tie.Need-returns
 returns c = search kept
@@ -75,7 +75,7 @@ call-spec =
     cast-put-often
     put-often-requires
     fill-requires
-    paint-often-requires
+    paint-lent-requires
     returns
     returns-2
     returns-3

@@ -10,29 +10,11 @@ cast-count c = search needs
 count-requires : tie.Need-count-requires
 count-requires c κs = search needs
 
-cast-count-2 : tie.Need-cast-count-2
-cast-count-2 c = search needs
-
-count-requires-2 : tie.Need-count-requires-2
-count-requires-2 c κs = search needs
-
-cast-count-3 : tie.Need-cast-count-3
-cast-count-3 c = search needs
-
-count-requires-3 : tie.Need-count-requires-3
-count-requires-3 c κs = search needs
-
-slice-aggregate-frame : tie.Need-slice-aggregate-frame
-slice-aggregate-frame c = search needs
-
-slice-aggregate-frame-2 : tie.Need-slice-aggregate-frame-2
-slice-aggregate-frame-2 c = search needs
-
 slice-relend-prefix-frame : tie.Need-slice-relend-prefix-frame
 slice-relend-prefix-frame c = search needs
 
-slice-aggregate-frame-3 : tie.Need-slice-aggregate-frame-3
-slice-aggregate-frame-3 c = search needs
+slice-aggregate-frame : tie.Need-slice-aggregate-frame
+slice-aggregate-frame c = search needs
 
 frame-requires : tie.Need-frame-requires
 frame-requires c κs = search needs
@@ -49,14 +31,8 @@ frame-spec =
     (tie.spec
     cast-count
     count-requires
-    cast-count-2
-    count-requires-2
-    cast-count-3
-    count-requires-3
-    slice-aggregate-frame
-    slice-aggregate-frame-2
     slice-relend-prefix-frame
-    slice-aggregate-frame-3
+    slice-aggregate-frame
     frame-requires
     same-length
     returns)

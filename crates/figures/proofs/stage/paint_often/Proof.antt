@@ -8,11 +8,11 @@ use Rattle.figures.proofs.stage.paint_often.Statement.{statement}
 use Rattle.figures.proofs.stage.paint_often.Tie as tie
 
 abbrev Inv-loop : tie.InvT-loop
-Inv-loop r tables pictures out₀ lent more told₀ left₀ out told left =
+Inv-loop r tables pictures floats out₀ n more told₀ left₀ out told left =
     (length out ≡ length out₀) × Arranged (told .state)
 
 abbrev μ-loop : tie.MeasureT-loop
-μ-loop r tables pictures out₀ lent more told₀ left₀ out told left = left
+μ-loop r tables pictures floats out₀ n more told₀ left₀ out told left = left
 
 paint-once-requires : tie.Need-paint-once-requires Inv-loop μ-loop
 paint-once-requires c κs = search needs

@@ -24,14 +24,14 @@ pub record Lines (part : Part) (first count : ℕ) : Type 0 where
   pub long : part .count ≡ count
 
 abbrev Inv-loop : tie.InvT-loop
-Inv-loop out₀ indexes₀ row₀ w tables pictures fresh plan stride ground first count k₀ out indexes row k =
+Inv-loop out₀ indexes₀ row₀ w tables pictures floats fresh plan stride ground first count k₀ out indexes row k =
     (k ≤ count)
-    × ((s : Scene) (part : Part) → Holds w tables pictures s → OfPart s part plan → Lines part first count
+    × ((s : Scene) (part : Part) → Holds w tables pictures floats s → OfPart s part plan → Lines part first count
     → out ≡ each (rowsByte s part fresh k) out₀)
     × (length out ≡ length out₀) × (length indexes ≡ length indexes₀) × (length row ≡ length row₀)
 
 abbrev μ-loop : tie.MeasureT-loop
-μ-loop out₀ indexes₀ row₀ w tables pictures fresh plan stride ground first count k₀ out indexes row k = count - k
+μ-loop out₀ indexes₀ row₀ w tables pictures floats fresh plan stride ground first count k₀ out indexes row k = count - k
 
 screen-width-requires : tie.Need-screen-width-requires Inv-loop μ-loop
 screen-width-requires c κs = search needs
@@ -57,7 +57,7 @@ wide c s same = rw same (c .pre .0 .1)
 
 loop-holds : tie.Need-loop-holds Inv-loop μ-loop
 loop-holds c =
-    let a = c .before .before .before .before .before .before .before .before .before in (
+    let a = c .before .before .before .before .before .before .before .before .before .before in (
       search needs,
       λ s part same of on. rows-none s part _ (wide a s (same .0)) _,
       refl,
@@ -68,7 +68,7 @@ loop-holds c =
 -- ---- line k lies in the output
 
 abbrev start : tie.In-loop Inv-loop μ-loop → tie.Start Inv-loop μ-loop
-start c = c .before .before .before .before .before .before .before .before .before .before .before
+start c = c .before .before .before .before .before .before .before .before .before .before .before .before
 
 -- the bytes of a line
 abbrev S : tie.In-loop Inv-loop μ-loop → ℕ
@@ -157,7 +157,7 @@ same-length-3 c = c .before .loop .inv .4
 
 returns : tie.Need-returns Inv-loop μ-loop
 returns c =
-    let a = c .before .before .before .before .before .before .before .before .before .before .before in
+    let a = c .before .before .before .before .before .before .before .before .before .before .before .before in
     record {
       laid = λ s same of.
           rows-all s _ _ (wide a s (same .0)) _ _ _ (omega arith) (rw (same .0) (a .pre .0 .0))

@@ -21,7 +21,7 @@ slice-aggregate-lay-lines-2 c = search needs
 
 lay-lines-requires : tie.Need-lay-lines-requires
 lay-lines-requires c κs =
-    let a = c .before .before .before .before .before .before .before .before .before in (
+    let a = c .before .before .before .before .before .before .before .before .before .before in (
       a .pre .0,
       (
         a .pre .1,
@@ -46,7 +46,7 @@ slice-aggregate-lay-lines-4 c = search needs
 
 lay-lines-requires-2 : tie.Need-lay-lines-requires-2
 lay-lines-requires-2 c κs =
-    let a = c .before .before .before .before .before .before .before in
+    let a = c .before .before .before .before .before .before .before .before in
     (a .pre .0, (a .pre .1, λ drawn. absurd (true≢false (sym drawn ∙ c .before .before .before .if1 .left))))
 
 same-length-2 : tie.Need-same-length-2

@@ -39,7 +39,7 @@ returns c =
       over = λ s same long m.
           step-whole s _ _ m (a .pre .0 .0) _
           (picture-own s _ _ m _ _ same (c .before .before .before .before .before .row-start .ensures)
-          (a .pre .0 .2)) _ _ long
+          (a .pre .0 .2) (a .pre .0 .3)) _ _ long
           (a .pre .0 .1 ∙ sym (length-each _ _)) (c .before .before .over-ground .ensures);
     }
 

@@ -17,26 +17,26 @@ use Rattle.scanline.proofs.line.paint_line.Statement.{statement}
 use Rattle.scanline.proofs.line.paint_line.Tie as tie
 
 abbrev Inv-loop : tie.InvT-loop
-Inv-loop line₀ indexes₀ row₀ tables pictures laid y plan i₀ line indexes row i =
-    ((s : Scene) (l : List ℕ) → Lends tables pictures s → OfLine s line₀ → OfLayers s l plan
+Inv-loop line₀ indexes₀ row₀ tables pictures floats laid y plan i₀ line indexes row i =
+    ((s : Scene) (l : List ℕ) → Lends tables pictures floats s → OfLine s line₀ → OfLayers s l plan
     → each (lineFrom s y l i) line ≡ each (lineFrom s y l laid) line₀)
     × (length line ≡ length line₀) × (length indexes ≡ length indexes₀) × (length row ≡ length row₀)
 
 abbrev μ-loop : tie.MeasureT-loop
-μ-loop line₀ indexes₀ row₀ tables pictures laid y plan i₀ line indexes row i = plan .count - i
+μ-loop line₀ indexes₀ row₀ tables pictures floats laid y plan i₀ line indexes row i = plan .count - i
 
 loop-holds : tie.Need-loop-holds Inv-loop μ-loop
 loop-holds c = (λ s l same long q. refl, refl, refl, refl)
 
 mul-step : tie.Need-mul-step Inv-loop μ-loop
-mul-step c = omega (arith, c .before .before .before .before .before .before .before .pre .0 .few)
+mul-step c = omega (arith, c .before .before .before .before .before .before .before .before .pre .0 .few)
 
 element-copy-out-step : tie.Need-element-copy-out-step Inv-loop μ-loop
-element-copy-out-step c = omega (arith, c .before .before .before .before .before .before .before .pre .0 .few)
+element-copy-out-step c = omega (arith, c .before .before .before .before .before .before .before .before .pre .0 .few)
 
 layer-line-requires : tie.Need-layer-line-requires Inv-loop μ-loop
 layer-line-requires c κs =
-    let a = c .before .before .before .before .before .before .before .before .before .before .before in
+    let a = c .before .before .before .before .before .before .before .before .before .before .before .before in
     let i = c .before .before .before .before .before .loop .inv in
     let t = c .before .before .before .before .loop-test .taken in (
       rw (i .1) (a .pre .0 .fit _ t),

@@ -23,8 +23,8 @@ layer-word-requires-5 c κs = search needs
 layer-word-requires-6 : tie.Need-layer-word-requires-6
 layer-word-requires-6 c κs = search needs
 
-cast-t20 : tie.Need-cast-t20
-cast-t20 c = search needs
+cast-t23 : tie.Need-cast-t23
+cast-t23 c = search needs
 
 lower-requires : tie.Need-lower-requires
 lower-requires c κs = search needs
@@ -38,11 +38,11 @@ lower-requires-2 c κs = search needs
 upper-requires-2 : tie.Need-upper-requires-2
 upper-requires-2 c κs = search needs
 
-cast-t26 : tie.Need-cast-t26
-cast-t26 c = search needs
-
 cast-t29 : tie.Need-cast-t29
 cast-t29 c = search needs
+
+cast-t32 : tie.Need-cast-t32
+cast-t32 c = search needs
 
 returns : tie.Need-returns
 unfolding layerOf
@@ -70,11 +70,11 @@ layer-of-spec =
     layer-word-requires-4
     layer-word-requires-5
     layer-word-requires-6
-    cast-t20
+    cast-t23
     lower-requires
     upper-requires
     lower-requires-2
     upper-requires-2
-    cast-t26
     cast-t29
+    cast-t32
     returns)

@@ -1,4 +1,4 @@
--- `scanline::line::draw_row` meets its contract: the three parts lie in the tables, and what they draw goes
+-- `scanline::row::draw_row` meets its contract: the three parts lie in the tables, and what they draw goes
 -- through the colours. Assumes nothing.
 use borrow.Author.Needs.{needs}
 use mathlib.Core.Path.{sym, ap, _∙_}
@@ -7,8 +7,8 @@ use native.Mathlib.Omega.{arith}
 use lib.ListN.{length}
 use Rattle.scanline.proofs.DrawLaws.{banked-tables, banked-count, banked-row}
 use Rattle.lists.proofs.Tab.{length-tab}
-use Rattle.scanline.proofs.line.draw_row.Statement.{statement}
-use Rattle.scanline.proofs.line.draw_row.Tie as tie
+use Rattle.scanline.proofs.row.draw_row.Statement.{statement}
+use Rattle.scanline.proofs.row.draw_row.Tie as tie
 
 cast-bits : tie.Need-cast-bits
 cast-bits c = search needs

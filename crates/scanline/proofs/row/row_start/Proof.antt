@@ -1,12 +1,12 @@
--- `scanline::line::row_start` meets its contract: the row begins among the pictures, so that no step towards it
+-- `scanline::row::row_start` meets its contract: the row begins among the pictures, so that no step towards it
 -- wraps. Assumes nothing.
 use borrow.Author.Needs.{needs}
 use mathlib.Core.Path.{refl}
 use Prim.Native.Nat.{_-_, _*_, _<_}
 use native.Mathlib.Omega.{arith}
 use Rattle.scanline.specs.Engine.Lines.{rowStart}
-use Rattle.scanline.proofs.line.row_start.Statement.{statement}
-use Rattle.scanline.proofs.line.row_start.Tie as tie
+use Rattle.scanline.proofs.row.row_start.Statement.{statement}
+use Rattle.scanline.proofs.row.row_start.Tie as tie
 
 start : (c : tie.Start) → rowStart (c .args .step) (c .args .y) < 18446744073709551616
 start c = omega (arith, c .pre .1)
