@@ -82,12 +82,7 @@ static void time_runs(enum look look, const struct size *size, struct run *runs)
         scenes[i] = float_scene(&FLOAT_RUN[i], look, size);
         runs[i] = new_run(FLOAT_RUN[i].painter, scenes[i], room(frame_length(scenes[i])));
     }
-    take_turns(runs, FLOAT_RUNS, SECONDS);
-    for (int i = 0; i < FLOAT_RUNS; i++) {
-        drop_run(&runs[i]);
-        free(runs[i].output);
-        drop_scene(scenes[i]);
-    }
+    take_own_turns(runs, scenes, FLOAT_RUNS, SECONDS);
 }
 
 static void print_row(const struct float_look *look, const struct size *size)

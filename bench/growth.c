@@ -1,7 +1,6 @@
 /* The table of growth: what each doubling costs spoonwing_frame, or a kept display where pictures
  * are floats. */
 #include <stdio.h>
-#include <stdlib.h>
 
 #include "growth.h"
 #include "lines.h"
@@ -51,12 +50,7 @@ static void time_steps(const struct growth *growth, struct run *runs)
         scenes[i] = growth->make(i, 1);
         runs[i] = new_run(growth->painter, scenes[i], room(frame_length(scenes[i])));
     }
-    take_turns(runs, growth->steps, SECONDS);
-    for (int i = 0; i < growth->steps; i++) {
-        drop_run(&runs[i]);
-        free(runs[i].output);
-        drop_scene(scenes[i]);
-    }
+    take_own_turns(runs, scenes, growth->steps, SECONDS);
 }
 
 static void print_row(const struct growth *growth)

@@ -84,3 +84,13 @@ void take_turns(struct run *runs, int count, double seconds)
     for (int round = 0; round < FEWEST_ROUNDS || now() < end; round++)
         take_round(runs, count, round % count);
 }
+
+void take_own_turns(struct run *runs, struct scene *const *scenes, int count, double seconds)
+{
+    take_turns(runs, count, seconds);
+    for (int i = 0; i < count; i++) {
+        drop_run(&runs[i]);
+        free(runs[i].output);
+        drop_scene(scenes[i]);
+    }
+}

@@ -23,4 +23,7 @@ uint32_t checked(const struct run *run, const uint8_t *wanted);
  * time of each. */
 void take_turns(struct run *runs, int count, double seconds);
 
+/* The same of runs that have a scene and an output each, which are dropped after it. */
+void take_own_turns(struct run *runs, struct scene *const *scenes, int count, double seconds);
+
 #endif

@@ -89,12 +89,7 @@ static void time_runs(enum scale scale, const struct size *size, struct run *run
         scenes[i] = text_scene(&TEXT_RUN[i], scale, size);
         runs[i] = new_run(TEXT_RUN[i].painter, scenes[i], room(frame_length(scenes[i])));
     }
-    take_turns(runs, TEXT_RUNS, SECONDS);
-    for (int i = 0; i < TEXT_RUNS; i++) {
-        drop_run(&runs[i]);
-        free(runs[i].output);
-        drop_scene(scenes[i]);
-    }
+    take_own_turns(runs, scenes, TEXT_RUNS, SECONDS);
 }
 
 static void print_row(enum scale scale, const struct size *size)

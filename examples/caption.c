@@ -76,13 +76,12 @@ static void put_too_many(void)
 
 static void write_registers(void)
 {
-    enum { DISPLAY_ON = 1, UPDATE = 4 };
     static const uint8_t ground[] = {30, 62, 88};
     uint8_t run[WRITE_LENGTH * REGISTERS];
     put_screen(image, WIDTH, HEIGHT, ground);
     for (int n = 0; n < LAYERS; n++)
         put_layer(image, n, &SCENE[n]);
-    put_word(image, DISPLAY_ON | UPDATE);
+    put_update(image);
     put_word(image + 4 * 3, UINT32_C(0x01010101) << CAPTION); /* bank 1 of all four kinds */
     put_writes(run, image);
     done(spoonwing_display_write_run(state, sizeof state, run, sizeof run, &item));

@@ -77,14 +77,13 @@ static void make_card(void)
 
 static void write_registers(void)
 {
-    enum { DISPLAY_ON = 1, UPDATE = 4 };
     static const uint8_t sky[] = {158, 216, 232};
     uint8_t run[WRITE_LENGTH * REGISTERS];
     size_t item;
     put_screen(image, WIDTH, HEIGHT, sky);
     for (int n = 0; n < LAYERS; n++)
         put_layer(image, n, &SCENE[n]);
-    put_word(image, DISPLAY_ON | UPDATE);
+    put_update(image);
     put_writes(run, image);
     done(spoonwing_display_write_run(state, sizeof state, run, sizeof run, &item));
 }

@@ -98,13 +98,12 @@ static void load_caption(struct display *display)
 
 static void write_registers(struct display *display)
 {
-    enum { DISPLAY_ON = 1, UPDATE = 4 };
     static const uint8_t ground[] = {30, 62, 88};
     uint8_t run[WRITE_LENGTH * REGISTERS], *image = display->image;
     size_t item;
     put_screen(image, WIDTH, HEIGHT, ground);
     put_layer(image, CAPTION, &PANE);
-    put_word(image, DISPLAY_ON | UPDATE);
+    put_update(image);
     put_word(image + 4 * 3, UINT32_C(0x01010101) << CAPTION); /* bank 1 of all four kinds */
     put_writes(run, image);
     done(spoonwing_display_write_run(display->state, sizeof display->state, run, sizeof run,

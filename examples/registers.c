@@ -5,13 +5,19 @@
 #include "tables.h"
 
 enum { WORD_LENGTH = 4, FIRST_LAYER = 4, LAYER_WORDS = 6 };
+enum { DISPLAY_ON = 1, UPDATE = 4 };
 
 void put_screen(uint8_t *image, uint32_t width, uint32_t height, const uint8_t ground[3])
 {
-    put_word(image, 1);
+    put_word(image, DISPLAY_ON);
     put_word(image + WORD_LENGTH, height << 16 | width);
     put_word(image + 2 * WORD_LENGTH,
              (uint32_t)ground[2] << 16 | (uint32_t)ground[1] << 8 | ground[0]);
+}
+
+void put_update(uint8_t *image)
+{
+    put_word(image, DISPLAY_ON | UPDATE);
 }
 
 void put_layer(uint8_t *image, int n, const struct layer *layer)

@@ -15,6 +15,9 @@ struct layer {
  * first, so bank 0 of every table is active. */
 void put_screen(uint8_t *image, uint32_t width, uint32_t height, const uint8_t ground[3]);
 
+/* The display on and the update bit set: a start takes up what was written. */
+void put_update(uint8_t *image);
+
 /* Layer n, enabled; a layer that is not put stays off. */
 void put_layer(uint8_t *image, int n, const struct layer *layer);
 

@@ -28,7 +28,7 @@ use Rattle.frames.specs.Band.{layerStep}
 use Rattle.frames.specs.Frame.{frameOf}
 use Rattle.laws.specs.Painting.{Ready, Clear, without}
 use Rattle.laws.proofs.LayerLaws.{SameKind, kinds-let, accepted-alike}
-use Rattle.laws.proofs.FloatLaws.{bytes-cut, length-cut-floats}
+use Rattle.laws.proofs.FloatLaws.{bytes-cut}
 use Rattle.laws.proofs.Bands.{bandBy-cong}
 use Rattle.laws.proofs.Pixels.{picture-room, over-clear, over-same, frame-same}
 
@@ -217,7 +217,7 @@ module _ (s : Scene) (n : ℕ) (ready : Ready s) (hn : n < 8) where
             (rw (ready .pictures) (fits false)) in
             omega (arith, c, total false, ready .pictures);
         floats =
-            let c = length-cut-floats (s .floats) (pictureStart true w n) (pictureLenAt true w n)
+            let c = length-cut (s .floats) (pictureStart true w n) (pictureLenAt true w n)
             (rw (ready .floats) (fits true)) in
             omega (arith, c, total true, ready .floats);
       },

@@ -7,19 +7,21 @@ use lib.ListN.{length, getD, take, drop, length-append, length-drop, List·getD-
 use lib.Seq.{getD-take, getD-drop, length-take-le, getD-append-add}
 use Rattle.lists.specs.Cut.{cut}
 
-module _ (l : List ℕ) (o n : ℕ) (fits : o + n ≤ length l) where
+module _ {A : Type 0} (l : List A) (o n : ℕ) (fits : o + n ≤ length l) where
   length-front : length (take o l) ≡ o
   length-front = length-take-le o l (omega arith)
 
   pub length-cut : length (cut o n l) + n ≡ length l
   length-cut = simp (length-append, length-drop) (omega (arith, length-front))
 
+module _ (l : List ℕ) (o n : ℕ) (fits : o + n ≤ length l) where
   pub cut-low : (i : ℕ) → i < o → getD (cut o n l) i 0 ≡ getD l i 0
-  cut-low i h = List·getD-append (take o l) (drop (o + n) l) 0 i (omega (arith, length-front)) ∙ getD-take o l i 0 h
+  cut-low i h =
+      List·getD-append (take o l) (drop (o + n) l) 0 i (omega (arith, length-front l o n fits)) ∙ getD-take o l i 0 h
 
   pub cut-high : (i : ℕ) → o ≤ i → getD (cut o n l) i 0 ≡ getD l (i + n) 0
   cut-high i h =
-      let q : i ≡ length (take o l) + (i - o) = omega (arith, length-front) in
+      let q : i ≡ length (take o l) + (i - o) = omega (arith, length-front l o n fits) in
       let r : o + n + (i - o) ≡ i + n = omega arith in
       ap (λ (z : ℕ). getD (cut o n l) z 0) q ∙ getD-append-add (take o l) (drop (o + n) l) (i - o) 0
       ∙ getD-drop (o + n) l (i - o) 0

@@ -83,24 +83,14 @@ fn tables_refusal(bits: usize, tables: usize) -> u8
     TABLES_LENGTH
 }
 
-// 14, of pictures so long, where so many bytes are asked.
-fn pictures_refusal(total: u32, pictures: usize) -> u8
-    ensures { λ r. ⌜ r ≡ pick (eqb pictures total) done picturesLength ⌝ }
+// 14 or 18, which `answer` is, of a buffer so long, where another length is asked.
+fn buffer_refusal(asked: u32, lent: usize, answer: u8) -> u8
+    ensures { λ r. ⌜ r ≡ pick (eqb lent asked) done answer ⌝ }
 {
-    if pictures == (total as usize) {
+    if lent == (asked as usize) {
         return DONE;
     }
-    PICTURES_LENGTH
-}
-
-// 18, of so many floats, where so many are asked.
-fn floats_refusal(total: u32, floats: usize) -> u8
-    ensures { λ r. ⌜ r ≡ pick (eqb floats total) done floatsLength ⌝ }
-{
-    if floats == (total as usize) {
-        return DONE;
-    }
-    FLOATS_LENGTH
+    answer
 }
 
 // 6, then 14 and then 18, of what is lent to read.
@@ -110,8 +100,8 @@ fn lent_refusal(bits: usize, asked: Pictures, lent: Lengths) -> u8
         (orElse (pick (eqb (lent .pictures) (asked .bytes)) done picturesLength)
         (pick (eqb (lent .floats) (asked .floats)) done floatsLength)) ⌝ }
 {
-    let pictures = pictures_refusal(asked.bytes, lent.pictures);
-    let floats = floats_refusal(asked.floats, lent.floats);
+    let pictures = buffer_refusal(asked.bytes, lent.pictures, PICTURES_LENGTH);
+    let floats = buffer_refusal(asked.floats, lent.floats, FLOATS_LENGTH);
     or_else(tables_refusal(bits, lent.tables), or_else(pictures, floats))
 }
 

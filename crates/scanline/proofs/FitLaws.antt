@@ -1,13 +1,16 @@
--- The steps of a part's plan fit the scene's lines and the buffers that it lends; and a step that fits has its
--- rows in its picture's buffer. Assumes nothing.
+-- The steps of a part's plan fit the scene's lines and the buffers that it lends; a test tells which lines a step reaches;
+-- and one that fits has its rows in its picture's buffer. Assumes nothing.
 use mathlib.Core.Path.{_≡_, ap}
 use mathlib.Core.Bool.{Bool, true, false}
 use mathlib.Core.List.{List}
 use Prim.Native.Nat.{ℕ, _+_, _-_, _*_, _≤_, _<_}
 use native.Mathlib.Nat.{mul-comm}
 use native.Mathlib.Omega.{arith}
+use borrow.Author.Tests.{leb-true, ltb-true}
+use lib.Dec.{leb}
 use lib.Ieee.{Float}
 use lib.ListN.{length, getD}
+use Rattle.lists.proofs.Choice.{both-left, both-right}
 use Rattle.lists.proofs.Digits.{row-room}
 use Rattle.profiles.specs.Profile.{bitsOf}
 use Rattle.profiles.proofs.ProfileLaws.{bits-some, bits-few}
@@ -17,6 +20,7 @@ use Rattle.words.proofs.PictureLaws.{own-room}
 use Rattle.tables.specs.Geometry.{kindLen, listKind, stringsKind, fontKind}
 use Rattle.draw.specs.declared.ListEnd.{ListEnd}
 use Rattle.frames.specs.Scene.{Scene}
+use Rattle.frames.specs.Pixel.{spans}
 use Rattle.plan.specs.declared.Step.{Step}
 use Rattle.plan.specs.declared.Plan.{Plan}
 use Rattle.plan.specs.declared.Part.{Part}
@@ -25,6 +29,13 @@ use Rattle.scanline.specs.Engine.Lines.{Lent, Banked, Pictured, Fit, All
 use Rattle.scanline.specs.Engine.Lines.{rowStart}
 use Rattle.plan.proofs.PlanLaws.{partLayers-enabled, length-partLayers-le, planned-layer, made-floats}
 use Rattle.scanline.proofs.DrawLaws.{active-room, list-is}
+
+pub on-row : (t : Step) (y : ℕ) → spans (t .layer .y) (t .layer .height) y ≡ true → OnRow t y
+on-row t y e =
+    record {
+      top = leb-true _ _ (both-left (leb (t .layer .y) y) _ e);
+      bottom = ltb-true _ _ (both-right (leb (t .layer .y) y) _ e);
+    }
 
 module _ (s : Scene) (lent : Lent s) (t : Step) (number : t .number < 8) (m : OfLayer s t) where
   layer-banked : t .layer .graphics ≡ true → Banked (s .tables) t

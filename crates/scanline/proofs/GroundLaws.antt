@@ -3,8 +3,8 @@ use mathlib.Core.Path.{_≡_, refl, ap}
 use mathlib.Core.Bool.{Bool, true, false, not}
 use mathlib.Core.List.{List, [], _∷_}
 use Prim.Native.Nat.{ℕ, zero, suc, _<_}
-use borrow.Author.Tests.{not-true, eqb-true, leb-true, ltb-true}
-use lib.Dec.{eqb, leb, ltb}
+use borrow.Author.Tests.{not-true, eqb-true, ltb-true}
+use lib.Dec.{eqb, ltb}
 use lib.ListN.{length}
 use Rattle.lists.specs.Choice.{both}
 use Rattle.lists.specs.Tab.{tab, each}
@@ -14,6 +14,7 @@ use Rattle.words.specs.declared.fields.Ground.{Ground}
 use Rattle.colours.specs.Rows as rows
 use Rattle.plan.specs.declared.Step.{Step}
 use Rattle.scanline.specs.Engine.Lines.{OnRow, wholeLine, groundByte}
+use Rattle.scanline.proofs.FitLaws.{on-row}
 
 pub ground-kept : (g : Ground) (out : List ℕ) → out ≡ each (groundByte g false) out
 unfolding groundByte
@@ -38,15 +39,7 @@ whole-line t pixels y e =
     let frame = both-left (not (t .layer .graphics)) _ e in
     let rest = both-right (not (t .layer .graphics)) _ e in
     let wide = both-left (eqb (t .wide) pixels) _ rest in
-    let row = both-right (eqb (t .wide) pixels) _ rest in (
-      not-true _ frame,
-      eqb-true _ _ wide,
-      record {
-        top = leb-true _ _ (both-left (leb (t .layer .y) y) _ row);
-        bottom = ltb-true _ _
-            (both-right (leb (t .layer .y) y) _ row);
-      },
-    )
+    let row = both-right (eqb (t .wide) pixels) _ rest in (not-true _ frame, eqb-true _ _ wide, on-row t y row)
 
 pub laid-first : (fresh : Bool) (count : ℕ) (t : Step) (pixels y : ℕ)
     → both fresh (both (ltb 0 count) (wholeLine t pixels y)) ≡ true

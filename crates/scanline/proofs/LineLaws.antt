@@ -6,7 +6,7 @@ use mathlib.Core.List.{List, _++_}
 use Prim.Native.Nat.{ℕ, _+_, _-_, _*_, _/_, _%_, _≤_, _<_}
 use native.Mathlib.Numerals.{add-one}
 use native.Mathlib.Omega.{arith}
-use borrow.Author.Tests.{lt-ltb}
+use borrow.Author.Tests.{le-leb, lt-ltb}
 use lib.Dec.{eqb}
 use lib.Ieee.{Float}
 use lib.ListN.{length, getD, take, drop, take-append-drop, drop-of-length-le}
@@ -27,7 +27,7 @@ use Rattle.plan.specs.declared.Step.{Step}
 use Rattle.words.specs.Order.{orderOf, within, bandLayers}
 use Rattle.frames.specs.Scene.{Scene}
 use Rattle.frames.proofs.PixelLaws.{Covered, over-outside, over-inside}
-use Rattle.frames.specs.Pixel.{bufferOf, pictureAt, ownAt, fadedOf, alphaAt, overAt}
+use Rattle.frames.specs.Pixel.{bufferOf, pictureAt, ownAt, fadedOf, alphaAt, spans, overAt}
 use Rattle.frames.specs.Band.{bandBy}
 use Rattle.plan.specs.declared.Part.{Part}
 use Rattle.plan.specs.Engine.Plan.{leftEnd, wideOf, reaches, taken, partLayers, OfLayer}
@@ -208,17 +208,15 @@ module _ (s : Scene) (y : ℕ) (t : Step) (m : OfLayer s t) where
         (rw (m .layer) at (r .bottom))
         own-layer line part long whole (rw (m .layer, m .alpha) at e)
 
-  -- ---- a line above or below the layer
+  -- ---- a line that the layer does not reach
 
-  pub step-above : (line : List ℕ) → y < t .layer .y → line ≡ each (lineByte s y (t .number)) line
-  step-above line h =
-      let a : y < layerOf (s .words) (t .number) .y = rw (m .layer) at h in
-      line-outside s y (t .number) line (λ x c. let z : ⊥ = omega (arith, c .top) in z)
-
-  pub step-below : (line : List ℕ) → t .layer .y + t .layer .height ≤ y → line ≡ each (lineByte s y (t .number)) line
-  step-below line h =
-      let a : layerOf (s .words) (t .number) .y + layerOf (s .words) (t .number) .height ≤ y = rw (m .layer) at h in
-      line-outside s y (t .number) line (λ x c. let z : ⊥ = omega (arith, c .bottom) in z)
+  pub step-beside : (line : List ℕ) → spans (t .layer .y) (t .layer .height) y ≡ false
+      → line ≡ each (lineByte s y (t .number)) line
+  step-beside line h = line-outside s y (t .number) line (λ x c. true≢false (sym (reached x c) ∙ (rw (m .layer) at h)))
+    where
+      reached : (x : ℕ) (c : Covered (layerOf (s .words) (t .number)) y x)
+          → spans (layerOf (s .words) (t .number) .y) (layerOf (s .words) (t .number) .height) y ≡ true
+      reached x c = rw (le-leb _ _ (c .top), lt-ltb _ _ (c .bottom))
 
 -- ---- all layers of a band
 

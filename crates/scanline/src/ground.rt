@@ -10,15 +10,14 @@ ghost use Rattle.lists.specs.Choice.{both};
 ghost use Rattle.lists.specs.Tab.{each};
 ghost use Rattle.mix.specs.Pixel.{pixelLen};
 ghost use Rattle.span.specs.Span.{overByte};
-ghost use Rattle.frames.specs.Pixel.{spans};
 ghost use Rattle.scanline.specs.Engine.Lines.{Pictured, OnRow, RowFlows, rowStart, groundByte, wholeLine};
 ghost use Rattle.scanline.specs.Engine.Lines.{Shows, Flows, Pours, Over, OverTo};
 use crate::row::float_row;
+use crate::row::is_on_row;
 use crate::row::row_start;
 use mix::PIXEL_LEN;
 use plan::Step;
 use words::fields::Ground;
-use words::fields::Layer;
 
 // The ground of a run.
 pub fn lay_ground(out: &mut [u8], fresh: bool, ground: Ground)
@@ -97,17 +96,6 @@ fn lay_layer(
         return;
     }
     lay_picture(line, pictures, ground, step, y);
-}
-
-// Whether a layer reaches line y.
-fn is_on_row(layer: Layer, y: usize) -> bool
-    ensures { λ r. ⌜ r ≡ spans (layer .y) (layer .height) y ⌝ }
-{
-    let top = layer.y as usize;
-    if y < top {
-        return false;
-    }
-    y < top + (layer.height as usize)
 }
 
 // Whether a layer is a picture that takes up the whole of line y, which has `pixels` pixels.

@@ -9,6 +9,7 @@ ghost use Rattle.span.specs.Span.{overByte};
 ghost use Rattle.plan.specs.Engine.Plan.{isMade};
 ghost use Rattle.scanline.specs.Engine.Lines.{Fit, AllFit, Makable, Scratch, OnRow, OnLine, rowStart};
 ghost use Rattle.scanline.specs.Engine.Lines.{Shows, Makes, Lends, Over, OverFrom};
+use crate::row::is_on_row;
 use crate::row::make_row;
 use crate::row::row_start;
 use mix::PIXEL_LEN;
@@ -95,11 +96,7 @@ fn layer_line(
     ensures { λ _. ⌜ Over (Lends (now (tables .entry)) (now (pictures .entry)) (now (floats .entry))) step y
         (now (line .entry)) (now (line .exit)) ⌝ }
 {
-    let top = step.layer.y as usize;
-    if y < top {
-        return;
-    }
-    if top + (step.layer.height as usize) <= y {
+    if !is_on_row(step.layer, y) {
         return;
     }
     if is_made(step.layer) {

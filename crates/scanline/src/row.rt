@@ -1,9 +1,11 @@
-// A row of a layer that is made before it is laid: drawn by an instruction list, or turned from floats to bytes.
+// The row that a line has of a layer: whether there is one, where it begins, and one that is made before it is laid, drawn
+// by an instruction list or turned from floats to bytes.
 ghost use mathlib.Core.Path.{_≡_};
 ghost use mathlib.Core.Bool.{true, false};
 ghost use Prim.Native.Nat.{_+_, _*_, _<_, _≤_};
 ghost use lib.ListN.{length};
 ghost use Rattle.mix.specs.Pixel.{pixelLen};
+ghost use Rattle.frames.specs.Pixel.{spans};
 ghost use Rattle.scanline.specs.Engine.Lines.{Banked, OnRow, RowFlows, Makable, rowStart, drawnRow};
 ghost use Rattle.scanline.specs.Engine.Lines.{Flows, Makes, RowMade};
 use mix::PIXEL_LEN;
@@ -13,6 +15,18 @@ use river::to_bytes;
 use tables::LIST_LEN;
 use tables::STRINGS_LEN;
 use tables::font_len;
+use words::fields::Layer;
+
+// Whether a layer reaches line y.
+pub fn is_on_row(layer: Layer, y: usize) -> bool
+    ensures { λ r. ⌜ r ≡ spans (layer .y) (layer .height) y ⌝ }
+{
+    let top = layer.y as usize;
+    if y < top {
+        return false;
+    }
+    y < top + (layer.height as usize)
+}
 
 // Where line y of a frame layer begins in its buffer.
 pub fn row_start(step: Step, y: usize) -> usize

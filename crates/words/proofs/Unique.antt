@@ -8,6 +8,7 @@ use Rattle.words.proofs.fields.screen_width.Reads as screen_width
 use Rattle.words.proofs.fields.screen_height.Reads as screen_height
 use Rattle.words.proofs.fields.ground_of.Reads as ground_of
 use Rattle.words.proofs.fields.active_bank.Reads as active_bank
+use Rattle.words.proofs.fields.layer_word.Reads as layer_word
 use Rattle.words.proofs.fields.layer_of.Reads as layer_of
 use Rattle.words.proofs.change.with_off.Reads as with_off
 use Rattle.words.proofs.change.with_bytes.Reads as with_bytes
@@ -33,6 +34,9 @@ ground-of-unique κs i a b e f p q = meet p q
 
 pub active-bank-unique : (κs i a b e f : _) → active_bank.Post κs i a e → active_bank.Post κs i b f → a ≡ b
 active-bank-unique κs i a b e f p q = meet p q
+
+pub layer-word-unique : (κs i a b e f : _) → layer_word.Post κs i a e → layer_word.Post κs i b f → a ≡ b
+layer-word-unique κs i a b e f p q = meet p q
 
 pub layer-of-unique : (κs i a b e f : _) → layer_of.Post κs i a e → layer_of.Post κs i b f → a ≡ b
 layer-of-unique κs i a b e f p q = meet p q

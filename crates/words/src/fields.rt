@@ -90,24 +90,24 @@ pub fn active_bank(w: &[u32; 52], g: u32, kind: u32) -> u32
     (w[3] >> (8 * kind + g)) % 2
 }
 
-// Word j of layer n's six.
-fn layer_word(w: &[u32; 52], n: usize, j: usize) -> u32
-    requires { ⌜ (n < 8) × (j < 6) ⌝ }
-    ensures { λ r. ⌜ r ≡ getD (now (w .entry)) (4 + j + 6 * n) 0 ⌝ }
+// Word j+6n, which is layer n's where j is 4 to 9.
+pub fn layer_word(w: &[u32; 52], j: usize, n: usize) -> u32
+    requires { ⌜ (j < 10) × (n < 8) ⌝ }
+    ensures { λ r. ⌜ r ≡ getD (now (w .entry)) (j + 6 * n) 0 ⌝ }
 {
-    w[4 + j + 6 * n]
+    w[j + 6 * n]
 }
 
 pub fn layer_of(w: &[u32; 52], n: usize) -> Layer
     requires { ⌜ n < 8 ⌝ }
     ensures { λ r. ⌜ r ≡ layerOf (now (w .entry)) n ⌝ }
 {
-    let kind = layer_word(w, n, 0);
-    let alpha = layer_word(w, n, 1);
-    let place = layer_word(w, n, 2);
-    let size = layer_word(w, n, 3);
-    let start = layer_word(w, n, 4);
-    let fade = layer_word(w, n, 5);
+    let kind = layer_word(w, 4, n);
+    let alpha = layer_word(w, 5, n);
+    let place = layer_word(w, 6, n);
+    let size = layer_word(w, 7, n);
+    let start = layer_word(w, 8, n);
+    let fade = layer_word(w, 9, n);
     Layer {
         on: kind % 2 == 1,
         graphics: kind / 2 % 2 == 1,

@@ -3,11 +3,11 @@ use borrow.Author.Needs.{needs}
 use Rattle.refusals.proofs.lent_refusal.Statement.{statement}
 use Rattle.refusals.proofs.lent_refusal.Tie as tie
 
-pictures-refusal-requires : tie.Need-pictures-refusal-requires
-pictures-refusal-requires c κs = search needs
+buffer-refusal-requires : tie.Need-buffer-refusal-requires
+buffer-refusal-requires c κs = search needs
 
-floats-refusal-requires : tie.Need-floats-refusal-requires
-floats-refusal-requires c κs = search needs
+buffer-refusal-requires-2 : tie.Need-buffer-refusal-requires-2
+buffer-refusal-requires-2 c κs = search needs
 
 tables-refusal-requires : tie.Need-tables-refusal-requires
 tables-refusal-requires c κs = search needs
@@ -24,16 +24,16 @@ returns c =
       c .or-else2 .ensures,
       c .before .or-else .ensures,
       c .before .before .tables-refusal .ensures,
-      c .before .before .before .floats-refusal .ensures,
-      c .before .before .before .before .pictures-refusal .ensures,
+      c .before .before .before .buffer-refusal2 .ensures,
+      c .before .before .before .before .buffer-refusal .ensures,
     )
 
 pub lent-refusal-spec : {M : Type 1} → statement M
 lent-refusal-spec =
     tie.close
     (tie.spec
-    pictures-refusal-requires
-    floats-refusal-requires
+    buffer-refusal-requires
+    buffer-refusal-requires-2
     tables-refusal-requires
     or-else-requires
     or-else-requires-2

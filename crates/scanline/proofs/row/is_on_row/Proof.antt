@@ -1,8 +1,8 @@
--- `scanline::ground::is_on_row` meets its contract: each `return` is a case of `spans`. Assumes nothing.
+-- `scanline::row::is_on_row` meets its contract: each `return` is a case of `spans`. Assumes nothing.
 use borrow.Author.Needs.{needs}
 use borrow.Author.Tests.{lt-leb, le-leb}
-use Rattle.scanline.proofs.ground.is_on_row.Statement.{statement}
-use Rattle.scanline.proofs.ground.is_on_row.Tie as tie
+use Rattle.scanline.proofs.row.is_on_row.Statement.{statement}
+use Rattle.scanline.proofs.row.is_on_row.Tie as tie
 
 cast-top : tie.Need-cast-top
 cast-top c = search needs
