@@ -10,12 +10,12 @@ layer-word-requires c κs = search needs
 bytes-word-requires : tie.Need-bytes-word-requires
 bytes-word-requires c κs = search needs
 
-with-word-requires : tie.Need-with-word-requires
-with-word-requires c κs = search needs
+set-word-requires : tie.Need-set-word-requires
+set-word-requires c κs = search needs
 
 returns : tie.Need-returns
 unfolding withBytes
-returns c = rw (c .with-word .ensures, c .before .bytes-word .ensures, c .before .before .layer-word .ensures)
+returns c = rw (c .set-word .ensures, c .before .before .bytes-word .ensures, c .before .before .before .layer-word .ensures)
 
 pub with-bytes-spec : {M : Type 1} → statement M
-with-bytes-spec = tie.close (tie.spec layer-word-requires bytes-word-requires with-word-requires returns)
+with-bytes-spec = tie.close (tie.spec layer-word-requires bytes-word-requires set-word-requires returns)

@@ -10,12 +10,12 @@ layer-word-requires c κs = search needs
 depth-word-requires : tie.Need-depth-word-requires
 depth-word-requires c κs = search needs
 
-with-word-requires : tie.Need-with-word-requires
-with-word-requires c κs = search needs
+set-word-requires : tie.Need-set-word-requires
+set-word-requires c κs = search needs
 
 returns : tie.Need-returns
 unfolding withDepth
-returns c = rw (c .with-word .ensures, c .before .depth-word .ensures, c .before .before .layer-word .ensures)
+returns c = rw (c .set-word .ensures, c .before .before .depth-word .ensures, c .before .before .before .layer-word .ensures)
 
 pub with-depth-spec : {M : Type 1} → statement M
-with-depth-spec = tie.close (tie.spec layer-word-requires depth-word-requires with-word-requires returns)
+with-depth-spec = tie.close (tie.spec layer-word-requires depth-word-requires set-word-requires returns)

@@ -10,12 +10,12 @@ layer-word-requires c κs = search needs
 off-word-requires : tie.Need-off-word-requires
 off-word-requires c κs = search needs
 
-with-word-requires : tie.Need-with-word-requires
-with-word-requires c κs = search needs
+set-word-requires : tie.Need-set-word-requires
+set-word-requires c κs = search needs
 
 returns : tie.Need-returns
 unfolding withOff
-returns c = rw (c .with-word .ensures, c .before .off-word .ensures, c .before .before .layer-word .ensures)
+returns c = rw (c .set-word .ensures, c .before .before .off-word .ensures, c .before .before .before .layer-word .ensures)
 
 pub with-off-spec : {M : Type 1} → statement M
-with-off-spec = tie.close (tie.spec layer-word-requires off-word-requires with-word-requires returns)
+with-off-spec = tie.close (tie.spec layer-word-requires off-word-requires set-word-requires returns)

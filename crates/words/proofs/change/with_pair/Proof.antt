@@ -10,12 +10,12 @@ layer-word-requires c κs = search needs
 pair-word-requires : tie.Need-pair-word-requires
 pair-word-requires c κs = search needs
 
-with-word-requires : tie.Need-with-word-requires
-with-word-requires c κs = search needs
+set-word-requires : tie.Need-set-word-requires
+set-word-requires c κs = search needs
 
 returns : tie.Need-returns
 unfolding withPair
-returns c = rw (c .with-word .ensures, c .before .pair-word .ensures, c .before .before .layer-word .ensures)
+returns c = rw (c .set-word .ensures, c .before .before .pair-word .ensures, c .before .before .before .layer-word .ensures)
 
 pub with-pair-spec : {M : Type 1} → statement M
-with-pair-spec = tie.close (tie.spec layer-word-requires pair-word-requires with-word-requires returns)
+with-pair-spec = tie.close (tie.spec layer-word-requires pair-word-requires set-word-requires returns)
