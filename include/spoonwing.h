@@ -10,8 +10,8 @@
  *   storing a state            the 440 bytes that a kept display is
  *
  * Link with libspoonwing.a (`tools/install PREFIX` puts it, this header and a file for pkg-config
- * in place). It is code for x86-64 and needs nothing beside it but memcpy and memset of the C
- * library.
+ * in place). It is code for the processor that libspoonwing.txt beside it names, and needs nothing
+ * else but memcpy and memset of the C library.
  *
  * What holds for every call
  *   Buffers   Each pointer is followed by its length in bytes and must point to that many; but the
