@@ -1,6 +1,6 @@
 /* Paintings for an emulator that logs what is executed: the subjects at the smaller size, each step
- * of growth at a quarter of its width and height, text, float pictures and frames by lines at the
- * smaller size; and a kept display's calls and loads, and mending. */
+ * of growth at a quarter of its width and height, text, float pictures and frames by lines and by
+ * bands at the smaller size; and a kept display's calls and loads, and mending. */
 #define _XOPEN_SOURCE 700
 #include <stdio.h>
 #include <stdlib.h>
@@ -10,9 +10,9 @@
 #include "floats.h"
 #include "growth.h"
 #include "kept.h"
-#include "lines.h"
 #include "loads.h"
 #include "mending.h"
+#include "parts.h"
 #include "report.h"
 #include "run.h"
 #include "subjects.h"
@@ -83,12 +83,14 @@ static void paint_floats(const struct float_look *look, const struct size *size)
     }
 }
 
-static void paint_lines(const struct subject *subject, const struct size *size)
+/* A table's row of a frame by parts, of which there are so many. */
+static void paint_parts(const char *table, const struct painter *painter, uint32_t parts,
+                        const struct subject *subject, const struct size *size)
 {
     struct scene *scene = subject->make(size->width, size->height);
-    dprintf(STDOUT_FILENO, "lines\t%s, %u x %u\t%u\n", subject->name, (unsigned)size->width,
-            (unsigned)size->height, (unsigned)size->height);
-    paint_marked(&BY_LINES, scene);
+    dprintf(STDOUT_FILENO, "%s\t%s, %u x %u\t%u\n", table, subject->name, (unsigned)size->width,
+            (unsigned)size->height, (unsigned)parts);
+    paint_marked(painter, scene);
     paint_marked(&BY_FRAME, scene);
     drop_scene(scene);
 }
@@ -132,16 +134,19 @@ static void mend_marked(int image)
 
 void paint_counted(void)
 {
+    const struct size *size = &SIZE[SIZES - 1];
     for (int i = 0; i < SUBJECTS; i++)
-        paint_subject(&SUBJECT[i], &SIZE[SIZES - 1]);
+        paint_subject(&SUBJECT[i], size);
     for (int i = 0; i < GROWTHS; i++)
         paint_growth(&GROWTH[i]);
     for (int i = 0; i < SCALES; i++)
-        paint_text(i, &SIZE[SIZES - 1]);
+        paint_text(i, size);
     for (int i = 0; i < FLOAT_LOOKS; i++)
-        paint_floats(&FLOAT_LOOK[i], &SIZE[SIZES - 1]);
+        paint_floats(&FLOAT_LOOK[i], size);
     for (int i = 0; i < SUBJECTS; i++)
-        paint_lines(&SUBJECT[i], &SIZE[SIZES - 1]);
+        paint_parts("lines", &BY_LINES, size->height, &SUBJECT[i], size);
+    for (int i = 0; i < SUBJECTS; i++)
+        paint_parts("bands", &BY_BANDS, size->width * size->height, &SUBJECT[i], size);
     for (int i = 0; i < WORKS; i++)
         work_marked(i);
     for (int i = 0; i < LOADS; i++)

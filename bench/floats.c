@@ -3,7 +3,7 @@
 #include <stdlib.h>
 
 #include "floats.h"
-#include "lines.h"
+#include "parts.h"
 #include "report.h"
 #include "run.h"
 #include "scenes.h"
@@ -92,8 +92,7 @@ static void print_row(const struct float_look *look, const struct size *size)
     printf("| %s, %u x %u |", look->name, (unsigned)size->width, (unsigned)size->height);
     for (int i = FLOATS + 1; i < FLOAT_RUNS; i++)
         print_cell(runs[FLOATS].least / runs[i].least, 0);
-    printf(" %.3f |\n", 1000 * runs[FLOATS].least);
-    fflush(stdout);
+    print_time(runs[FLOATS].least, 0);
 }
 
 void print_floats(void)

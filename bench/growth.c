@@ -3,7 +3,7 @@
 #include <stdio.h>
 
 #include "growth.h"
-#include "lines.h"
+#include "parts.h"
 #include "report.h"
 #include "run.h"
 #include "scenes.h"

@@ -42,7 +42,7 @@ static uint8_t *dirty_output(const struct scene *scene)
     return output;
 }
 
-/* The struct's words stand in memory as the state's do on an x86-64. */
+/* The struct's words stand in memory as the state's do, lowest byte first. */
 struct kept *new_kept(int work)
 {
     struct kept *kept = room(sizeof *kept);

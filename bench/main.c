@@ -45,7 +45,7 @@ static void print_all(int is_timed)
     print_bytes();
     check_text();
     check_floats();
-    check_lines();
+    check_parts();
     check_calls();
     check_mending();
     print_stack();
@@ -54,7 +54,7 @@ static void print_all(int is_timed)
         print_growth();
         print_text();
         print_floats();
-        print_lines();
+        print_parts();
         print_calls();
         print_loads();
         print_mending();

@@ -17,7 +17,7 @@ uint32_t plain_write(struct plain_display *display, uint32_t register_number, ui
     return SPOONWING_DONE;
 }
 
-/* The value's bytes stand as a word's do on an x86-64. */
+/* The value's bytes stand as a word's do, lowest first. */
 uint32_t plain_write_run(struct plain_display *display, const uint8_t *run, size_t run_length,
                          size_t *done)
 {

@@ -108,7 +108,7 @@ static size_t put_changes(uint32_t *list, const uint32_t *before, const uint32_t
     return (size_t)(at - list) / 3;
 }
 
-/* The image's bytes stand as words do on an x86-64. */
+/* The image's bytes stand as words do, lowest first. */
 uint32_t plain_mend(uint8_t *image, size_t image_length, uint32_t *list, size_t *count)
 {
     uint32_t before[REGISTERS], words[REGISTERS];

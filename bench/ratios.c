@@ -20,30 +20,27 @@ static void print_row(const struct subject *subject, const struct size *size)
     take_turns(runs, PAINTERS, SECONDS);
     printf("| %s, %u x %u |", subject->name, (unsigned)size->width, (unsigned)size->height);
     for (int i = 1; i < PAINTERS; i++)
-        print_cell(runs[0].least / runs[i].least, subject->wanted[i]);
-    printf(" %.3f |\n", 1000 * runs[0].least);
-    fflush(stdout);
+        print_cell(runs[0].least / runs[i].least, subject->wanted[size - SIZE][i]);
+    print_time(runs[0].least, size == &SIZE[0] ? subject->ms_wanted : 0);
     for (int i = 0; i < PAINTERS; i++)
         drop_run(&runs[i]);
     free(output);
     drop_scene(scene);
 }
 
-/* A full list beside one opaque picture. */
-static void print_list(const struct size *size)
+/* A scene, which is dropped, beside one opaque picture. */
+static void print_to_opaque(const char *name, struct scene *scene, const struct size *size,
+                            double wanted)
 {
-    enum { WANTED = 3 };
-    struct scene *list = full_list(size->width, size->height);
     struct scene *picture = opaque_picture(size->width, size->height);
-    uint8_t *output = room(frame_length(list));
-    struct run runs[] = {new_run(&SPOONWING, list, output), new_run(&SPOONWING, picture, output)};
+    uint8_t *output = room(frame_length(picture));
+    struct run runs[] = {new_run(&SPOONWING, scene, output), new_run(&SPOONWING, picture, output)};
     take_turns(runs, 2, SECONDS);
-    printf("| 48 live instructions to one opaque picture, %u x %u |\n|---|\n|",
-           (unsigned)size->width, (unsigned)size->height);
-    print_cell(runs[0].least / runs[1].least, WANTED);
-    printf("\n\n");
+    printf("| %s, %u x %u |", name, (unsigned)size->width, (unsigned)size->height);
+    print_cell(runs[0].least / runs[1].least, wanted);
+    printf("\n");
     free(output);
-    drop_scene(list);
+    drop_scene(scene);
     drop_scene(picture);
 }
 
@@ -54,6 +51,9 @@ void print_ratios(void)
            "| Scene | to plain C -O3 | to SDL2 | to pixman straight | to pixman premultiplied "
            "| to the floor | ms |\n|---|---|---|---|---|---|---|\n");
     each_subject(print_row);
+    printf("\n| Scene | to one opaque picture |\n|---|---|\n");
+    const struct size *size = &SIZE[0];
+    print_to_opaque("48 live instructions", full_list(size->width, size->height), size, 3);
+    print_to_opaque("eight opaque", eight_opaque(size->width, size->height), size, 1.5);
     printf("\n");
-    print_list(&SIZE[0]);
 }

@@ -5,14 +5,28 @@
 
 static int missed;
 
+/* The most that a number may be, where anything is wanted, and the end of its cell. */
+static void print_wanted(double number, double wanted, int digits)
+{
+    int is_missed = wanted != 0 && number > wanted;
+    if (wanted != 0)
+        printf(" (%.*f)%s", digits, wanted, is_missed ? " missed" : "");
+    printf(" |");
+    missed += is_missed;
+}
+
 void print_cell(double number, double wanted)
 {
-    if (wanted == 0) {
-        printf(" %.2f |", number);
-        return;
-    }
-    printf(" %.2f (%.2f)%s |", number, wanted, number > wanted ? " missed" : "");
-    missed += number > wanted;
+    printf(" %.2f", number);
+    print_wanted(number, wanted, 2);
+}
+
+void print_time(double seconds, double wanted)
+{
+    printf(" %.3f", 1000 * seconds);
+    print_wanted(1000 * seconds, wanted, 1);
+    printf("\n");
+    fflush(stdout);
 }
 
 int misses(void)

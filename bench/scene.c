@@ -52,12 +52,29 @@ static uint32_t next_random(uint32_t *state)
     return *state;
 }
 
+/* A stretch: its look, and how many more pixels of it are to come. */
+struct stretch {
+    enum look look;
+    uint32_t left;
+};
+
+static struct stretch next_stretch(uint32_t *state)
+{
+    static const enum look LOOKS[] = {CLEAR, OPAQUE, RANDOM_ALPHA};
+    uint32_t random = next_random(state);
+    return (struct stretch){LOOKS[(random >> 8) % 3], random % 255};
+}
+
+/* A picture of one look is one stretch, whose count never comes to its end. */
 static void make_picture(uint8_t *pixels, size_t length, uint32_t seed, enum look look)
 {
+    struct stretch stretch = {look, look == STRETCHES ? 0 : UINT32_MAX};
     for (size_t i = 0; i < length; i += PIXEL) {
+        if (stretch.left-- == 0)
+            stretch = next_stretch(&seed);
         put_word(pixels + i, next_random(&seed));
-        if (look == OPAQUE || look == CLEAR)
-            pixels[i + PIXEL - 1] = look == OPAQUE ? 255 : 0;
+        if (stretch.look == OPAQUE || stretch.look == CLEAR)
+            pixels[i + PIXEL - 1] = stretch.look == OPAQUE ? 255 : 0;
     }
 }
 

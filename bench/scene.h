@@ -29,8 +29,8 @@ struct scene {
 };
 
 /* The alphas of a picture's pixels. With one for the layer the pixels' own are random and do not
- * count. */
-enum look { RANDOM_ALPHA, OPAQUE, CLEAR, ONE_ALPHA };
+ * count. Stretches are of any length up to 255 pixels, each clear, opaque or of random alphas. */
+enum look { RANDOM_ALPHA, OPAQUE, CLEAR, ONE_ALPHA, STRETCHES };
 
 /* A screen covered by pictures of random channels, the same bytes in every run. Lists may be added,
  * of one bit a glyph pixel unless `bits` is set before, and then it is to be sealed. */

@@ -32,6 +32,17 @@ struct scene *eight_layers(uint32_t width, uint32_t height)
     return stack_of(width, height, MOST_LAYERS);
 }
 
+struct scene *eight_opaque(uint32_t width, uint32_t height)
+{
+    return sealed(new_scene(width, height, MOST_LAYERS, OPAQUE));
+}
+
+struct scene *stretches(uint32_t width, uint32_t height)
+{
+    enum { PICTURES = 4 };
+    return sealed(new_scene(width, height, PICTURES, STRETCHES));
+}
+
 struct scene *float_stack_of(uint32_t width, uint32_t height, int pictures)
 {
     return sealed(in_floats(new_scene(width, height, pictures, RANDOM_ALPHA)));

@@ -16,6 +16,10 @@ struct scene *museum(uint32_t width, uint32_t height);
 struct scene *stack_of(uint32_t width, uint32_t height, int pictures);
 struct scene *eight_layers(uint32_t width, uint32_t height);
 
+/* Eight opaque pictures, and four of stretches that are clear, opaque or mixed. */
+struct scene *eight_opaque(uint32_t width, uint32_t height);
+struct scene *stretches(uint32_t width, uint32_t height);
+
 /* The same as floats, for kept displays. */
 struct scene *float_stack_of(uint32_t width, uint32_t height, int pictures);
 

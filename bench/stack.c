@@ -7,7 +7,7 @@
 #include <ucontext.h>
 
 #include "floats.h"
-#include "lines.h"
+#include "parts.h"
 #include "report.h"
 #include "run.h"
 #include "subjects.h"

@@ -4,7 +4,7 @@
 
 #include "painter.h"
 
-enum { SIZES = 2, SUBJECTS = 6, PAINTERS = 6 };
+enum { SIZES = 2, SUBJECTS = 8, PAINTERS = 6 };
 
 struct size {
     uint32_t width, height;
@@ -13,12 +13,12 @@ struct size {
 struct subject {
     const char *name;
     struct scene *(*make)(uint32_t width, uint32_t height);
-    /* The most that spoonwing_frame's time may be, as a part of each painter's; 0 where nothing is
-     * asked. */
-    double wanted[PAINTERS];
-    /* The most that a frame by lines may take at the larger size, as a multiple of the whole frame;
-     * 0 where nothing is asked. */
-    double lines_wanted;
+    /* The most that spoonwing_frame's time may be at each size, as a part of each painter's; 0 where
+     * nothing is asked, here and below. */
+    double wanted[SIZES][PAINTERS];
+    /* At the larger size: the most that a frame by lines may take, as a multiple of the whole frame,
+     * and the most milliseconds of spoonwing_frame. */
+    double lines_wanted, ms_wanted;
 };
 
 extern const struct size SIZE[SIZES];

@@ -102,8 +102,7 @@ static void print_row(enum scale scale, const struct size *size)
     print_cell((two - runs[NO_SOFT_TEXT].least) / (one - runs[NO_TEXT].least), TEXT_WANTED);
     print_cell(one / runs[PLAIN_ONE_BIT].least, 0);
     print_cell(two / runs[PLAIN_TWO_BITS].least, 0);
-    printf(" %.3f |\n", 1000 * one);
-    fflush(stdout);
+    print_time(one, 0);
 }
 
 void print_text(void)

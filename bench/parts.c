@@ -1,9 +1,10 @@
-/* The table of lines: what a frame costs line by line beside the whole frame. */
+/* The tables of lines and of bands: what a frame costs line by line, and depth by depth, beside the
+ * whole frame. */
 #include <stdio.h>
 #include <stdlib.h>
 #include <string.h>
 
-#include "lines.h"
+#include "parts.h"
 #include "report.h"
 #include "run.h"
 #include "subjects.h"
@@ -67,6 +68,23 @@ static void paint_lines(const struct scene *scene, uint8_t *output, void *panel)
         paint_line(scene, panel, y);
 }
 
+static void paint_band(const struct scene *scene, uint8_t *output, struct panel *panel,
+                       uint32_t depth)
+{
+    done(spoonwing_display_paint(panel->state, sizeof panel->state, depth, depth + 1,
+                                 scene->tables, tables_length(scene), scene->pictures,
+                                 scene->pictures_length, scene->floats, scene->floats_length,
+                                 output, frame_length(scene)));
+}
+
+static void paint_bands(const struct scene *scene, uint8_t *output, void *prepared)
+{
+    struct panel *panel = prepared;
+    done(spoonwing_display_fill(panel->state, sizeof panel->state, output, frame_length(scene)));
+    for (uint32_t depth = 0; depth < MOST_LAYERS; depth++)
+        paint_band(scene, output, panel, depth);
+}
+
 static void paint_frame(const struct scene *scene, uint8_t *output, void *prepared)
 {
     struct panel *panel = prepared;
@@ -77,6 +95,8 @@ static void paint_frame(const struct scene *scene, uint8_t *output, void *prepar
 
 const struct painter BY_LINES = {
     .name = "spoonwing_display_line", .prepare = prepare, .paint = paint_lines, .drop = drop};
+const struct painter BY_BANDS = {
+    .name = "spoonwing_display_paint", .prepare = prepare, .paint = paint_bands, .drop = drop};
 const struct painter BY_FRAME = {
     .name = "spoonwing_display_frame", .prepare = prepare, .paint = paint_frame, .drop = drop};
 
@@ -98,15 +118,18 @@ static void check_line(const struct scene *scene, struct panel *panel, uint32_t 
 void check_kept(const struct scene *scene, const uint8_t *wanted)
 {
     struct run whole = new_run(&BY_FRAME, scene, room(frame_length(scene)));
+    struct run banded = new_run(&BY_BANDS, scene, whole.output);
     checked(&whole, wanted);
+    checked(&banded, wanted);
     for (uint32_t y = 0; y < scene->height; y++)
         check_line(scene, whole.prepared, y, wanted);
     drop_run(&whole);
+    drop_run(&banded);
     free(whole.output);
 }
 
-/* spoonwing_frame's bytes are held to the formula elsewhere; here the frame and its lines are held
- * to them. */
+/* spoonwing_frame's bytes are held to the formula elsewhere; here the frame, its bands and its lines
+ * are held to them. */
 static void check_subject(const struct subject *subject, const struct size *size)
 {
     struct scene *scene = subject->make(size->width, size->height);
@@ -117,36 +140,55 @@ static void check_subject(const struct subject *subject, const struct size *size
     drop_scene(scene);
 }
 
-void check_lines(void)
+void check_parts(void)
 {
     each_subject(check_subject);
-    printf("Every line of a kept display is that of its frame.\n\n");
+    printf("Every line of a kept display is that of its frame, and its bands make the frame.\n\n");
 }
 
 /* ---- times */
 
-static void print_row(const struct subject *subject, const struct size *size)
+/* Times a frame by parts beside the whole frame, begins a row with the ratio, and answers the time
+ * by parts. */
+static double print_beside(const struct painter *painter, const struct subject *subject,
+                           const struct size *size, double wanted)
 {
     struct scene *scene = subject->make(size->width, size->height);
     uint8_t *output = room(frame_length(scene));
-    struct run runs[] = {new_run(&BY_LINES, scene, output), new_run(&BY_FRAME, scene, output)};
+    struct run runs[] = {new_run(painter, scene, output), new_run(&BY_FRAME, scene, output)};
     take_turns(runs, 2, SECONDS);
     printf("| %s, %u x %u |", subject->name, (unsigned)size->width, (unsigned)size->height);
-    print_cell(runs[0].least / runs[1].least, size == &SIZE[0] ? subject->lines_wanted : 0);
-    printf(" %.0f |\n", 1e9 * runs[0].least / scene->height);
-    fflush(stdout);
+    print_cell(runs[0].least / runs[1].least, wanted);
     drop_run(&runs[0]);
     drop_run(&runs[1]);
     free(output);
     drop_scene(scene);
+    return runs[0].least;
 }
 
-void print_lines(void)
+static void print_lines_row(const struct subject *subject, const struct size *size)
+{
+    double wanted = size == &SIZE[0] ? subject->lines_wanted : 0;
+    double took = print_beside(&BY_LINES, subject, size, wanted);
+    printf(" %.0f |\n", 1e9 * took / size->height);
+    fflush(stdout);
+}
+
+static void print_bands_row(const struct subject *subject, const struct size *size)
+{
+    print_time(print_beside(&BY_BANDS, subject, size, 0), 0);
+}
+
+void print_parts(void)
 {
     printf("A frame by lines: the time of spoonwing_display_line on all lines of a frame, as a\n"
            "multiple of spoonwing_display_frame's on the same state; in brackets the most that\n"
            "is wanted.\n\n"
            "| Scene | by lines to the whole frame | ns a line |\n|---|---|---|\n");
-    each_subject(print_row);
+    each_subject(print_lines_row);
+    printf("\nA frame by bands: the time of spoonwing_display_fill and then of\n"
+           "spoonwing_display_paint for each of eight depths, likewise.\n\n"
+           "| Scene | by bands to the whole frame | ms |\n|---|---|---|\n");
+    each_subject(print_bands_row);
     printf("\n");
 }
