@@ -27,7 +27,7 @@ become() {
 
 # ---- processors
 
-# Whether this x86-64 has all that x86-64-v3 asks for; what it has beside x86-64 is in each of them.
+# Whether this x86-64 has what x86-64-v3 asks for; whichever has these has the rest of it too.
 is_v3() {
     local flag flags
     flags=" $(sed -n '/^flags/ { s/.*: //p; q }' /proc/cpuinfo) "
