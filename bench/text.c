@@ -92,6 +92,18 @@ static void time_runs(enum scale scale, const struct size *size, struct run *run
     take_own_turns(runs, scenes, TEXT_RUNS, SECONDS);
 }
 
+/* What text of two bits adds to its layer, as a multiple of what text of one does. Where that is less
+ * than a tenth of the frame it is lost in what the clock is off, and the cell stays empty. */
+static void print_added(const struct run *runs)
+{
+    double one = runs[ONE_BIT].least - runs[NO_TEXT].least;
+    double two = runs[TWO_BITS].least - runs[NO_SOFT_TEXT].least;
+    if (one < runs[ONE_BIT].least / 10)
+        printf(" |");
+    else
+        print_cell(two / one, TEXT_WANTED);
+}
+
 static void print_row(enum scale scale, const struct size *size)
 {
     struct run runs[TEXT_RUNS];
@@ -99,7 +111,7 @@ static void print_row(enum scale scale, const struct size *size)
     double one = runs[ONE_BIT].least, two = runs[TWO_BITS].least;
     printf("| scale %d, %u x %u |", 1 << scale, (unsigned)size->width, (unsigned)size->height);
     print_cell(two / one, TEXT_WANTED);
-    print_cell((two - runs[NO_SOFT_TEXT].least) / (one - runs[NO_TEXT].least), TEXT_WANTED);
+    print_added(runs);
     print_cell(one / runs[PLAIN_ONE_BIT].least, 0);
     print_cell(two / runs[PLAIN_TWO_BITS].least, 0);
     print_time(one, 0);
