@@ -6,14 +6,13 @@ ghost use lib.ListN.{length};
 ghost use Rattle.mix.specs.Pixel.{pixelLen};
 ghost use Rattle.words.specs.Fields.{widthOf};
 ghost use Rattle.frames.specs.Line.{lineLen};
-ghost use Rattle.scanline.specs.Engine.Lines.{AllFit, Scratch, Lends};
-ghost use Rattle.paint.specs.Engine.Rows.{mostPixels, Holds, LineLaid, RowsLaid};
+ghost use Rattle.scanline.specs.Engine.Lines.{AllFit, Scratch};
+ghost use Rattle.paint.specs.Engine.Rows.{mostPixels, Holds, RowsLaid};
 use mix::PIXEL_LEN;
 use plan::Part;
 use plan::Plan;
 use scanline::ground::lay_first;
-use scanline::line::paint_line;
-use words::fields::Ground;
+use scanline::line::layer_line;
 use words::fields::ground_of;
 use words::fields::screen_width;
 
@@ -35,44 +34,9 @@ fn pixel_room() -> [u8; MOST_BYTES]
     [0; MOST_BYTES]
 }
 
-// Line y: its ground, and the layers of a plan over it.
-fn lay_line(
-    line: &mut [u8],
-    indexes: &mut [u8],
-    row: &mut [u8],
-    tables: &[u8],
-    pictures: &[u8],
-    floats: &[f32],
-    fresh: bool,
-    ground: Ground,
-    plan: Plan,
-    y: usize,
-)
-    requires { ⌜ (length (now line) % pixelLen ≡ 0) × AllFit (now tables) (now pictures) (now floats) (length (now line)) plan ⌝ }
-    requires { ⌜ (plan .drawn ≡ true → Scratch (length (now line)) (now indexes) (now row)) ⌝ }
-    ensures { λ _. ⌜ LineLaid (Lends (now (tables .entry)) (now (pictures .entry)) (now (floats .entry))) plan fresh
-        ground y (now (line .entry)) (now (line .exit)) ⌝ }
-{
-    let laid = lay_first(
-        line,
-        row,
-        pictures,
-        floats,
-        fresh,
-        ground,
-        plan.steps[0],
-        plan.count,
-        y,
-    );
-    // A plan is copied for a call; where no layer is left there is none.
-    if plan.count <= laid {
-        return;
-    }
-    paint_line(line, indexes, row, tables, pictures, floats, plan, laid, y);
-}
-
 // The layers of a plan over the lines of a part, or over the background where the frame is a fresh one: it is laid
-// line by line, so that a line is still at hand when its layers come. `out` has the part's lines.
+// line by line, so that a line is still at hand when its layers come. `out` has the part's lines. The layers of a line
+// are gone through here too: a plan is copied for a call, which a line would pay for.
 fn lay_lines(
     out: &mut [u8],
     indexes: &mut [u8],
@@ -98,18 +62,24 @@ fn lay_lines(
     let mut k: usize = 0;
     while k < count {
         let at = k * stride;
-        lay_line(
-            &mut out[at..at + stride],
-            indexes,
+        let y = first + k;
+        let line = &mut out[at..at + stride];
+        let mut i = lay_first(
+            line,
             row,
-            tables,
             pictures,
             floats,
             fresh,
             ground,
-            plan,
-            first + k,
+            plan.steps[0],
+            plan.count,
+            y,
         );
+        while i < plan.count {
+            let step = plan.steps[i];
+            layer_line(line, indexes, row, tables, pictures, floats, step, y);
+            i += 1;
+        }
         k += 1;
     }
 }

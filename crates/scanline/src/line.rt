@@ -1,4 +1,4 @@
-// One line of the frame: each layer of a plan over what the line holds.
+// One line of the frame: a layer over what the line holds.
 ghost use mathlib.Core.Path.{_≡_};
 ghost use mathlib.Core.Bool.{true, false};
 ghost use Prim.Native.Nat.{_+_, _*_, _%_, _≤_};
@@ -7,13 +7,12 @@ ghost use Rattle.lists.specs.Tab.{each};
 ghost use Rattle.mix.specs.Pixel.{pixelLen};
 ghost use Rattle.span.specs.Span.{overByte};
 ghost use Rattle.plan.specs.Engine.Plan.{isMade};
-ghost use Rattle.scanline.specs.Engine.Lines.{Fit, AllFit, Makable, Scratch, OnRow, OnLine, rowStart};
-ghost use Rattle.scanline.specs.Engine.Lines.{Shows, Makes, Lends, Over, OverFrom};
+ghost use Rattle.scanline.specs.Engine.Lines.{Fit, Makable, Scratch, OnRow, OnLine, rowStart};
+ghost use Rattle.scanline.specs.Engine.Lines.{Shows, Makes, Lends, Over};
 use crate::row::is_on_row;
 use crate::row::make_row;
 use crate::row::row_start;
 use mix::PIXEL_LEN;
-use plan::Plan;
 use plan::Step;
 use plan::is_made;
 
@@ -81,7 +80,7 @@ fn made_line(
 }
 
 // A layer over the line y: nothing where the layer does not reach that line.
-fn layer_line(
+pub fn layer_line(
     line: &mut [u8],
     indexes: &mut [u8],
     row: &mut [u8],
@@ -104,29 +103,4 @@ fn layer_line(
         return;
     }
     picture_line(line, pictures, step, y);
-}
-
-// The layers of a plan over the line y, in the order of painting, but not the first `laid` of them.
-pub fn paint_line(
-    line: &mut [u8],
-    indexes: &mut [u8],
-    row: &mut [u8],
-    tables: &[u8],
-    pictures: &[u8],
-    floats: &[f32],
-    plan: Plan,
-    laid: usize,
-    y: usize,
-)
-    requires { ⌜ AllFit (now tables) (now pictures) (now floats) (length (now line)) plan ⌝ }
-    requires { ⌜ (plan .drawn ≡ true → Scratch (length (now line)) (now indexes) (now row)) ⌝ }
-    ensures { λ _. ⌜ OverFrom (Lends (now (tables .entry)) (now (pictures .entry)) (now (floats .entry))) plan laid y
-        (now (line .entry)) (now (line .exit)) ⌝ }
-{
-    let mut i = laid;
-    while i < plan.count {
-        let step = plan.steps[i];
-        layer_line(line, indexes, row, tables, pictures, floats, step, y);
-        i += 1;
-    }
 }

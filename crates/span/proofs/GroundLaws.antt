@@ -7,17 +7,17 @@ use native.Mathlib.Omega.{arith}
 use lib.ListN.{length, getD}
 use Rattle.lists.specs.Tab.{tab, each}
 use Rattle.lists.proofs.Tab.{length-tab, getD-tab, is-each}
-use Rattle.sixteen.specs.Engine.Lanes.{Part, Front, Lanes, anew, WordIs, Bytes, PixelIs, SameIs, HalfIs, JoinIs, MixIs}
-use Rattle.sixteen.specs.Engine.Lanes.{AllAlpha, storeByte}
+use Rattle.sixteen.specs.Engine.Lanes.{Part, Reach, Front, Lanes, anew, WordIs, Bytes, PixelIs, SameIs, HalfIs, JoinIs}
+use Rattle.sixteen.specs.Engine.Lanes.{HighIs, MixIs, AllAlpha, storeByte}
 use Rattle.colours.specs.Rows.{wordByte, solidByte}
 use Rattle.span.specs.Span.{overByte}
-use Rattle.span.specs.Engine.Laid.{layByte}
-use Rattle.sixteen.proofs.PartLaws.{part-cong, part-over, part-to, block-turn, whole}
+use Rattle.span.specs.Engine.Laid.{layByte, Onward}
+use Rattle.sixteen.proofs.PartLaws.{part-cong, part-over, part-to, reach-turn, block-turn, whole}
 use Rattle.sixteen.proofs.LaneLaws.{storeByte-even, storeByte-odd}
 use Rattle.colours.proofs.RowLaws.{pixelByte-at}
 use Rattle.colours.proofs.PixelLaws.{halves-byte, wordByte-is}
 use Rattle.span.proofs.OverLaws.{overByte-clear}
-use Rattle.span.proofs.OverParts.{AlphaIs, mix-bytes, copy-bytes, own-at}
+use Rattle.span.proofs.OverParts.{AlphaIs, alphas-own, mix-bytes, copy-bytes, own-at}
 
 lay-is : (over : List ℕ) (g : Bool) (a : ℕ) (f : ℕ → ℕ) (i : ℕ) {p : ℕ} → p ≡ f i
     → overByte over g a i p ≡ layByte over g a f i
@@ -86,16 +86,45 @@ module _ (c at : ℕ) (h : at % 4 ≡ 0) where
         ∙ own-at over at 16 0 h all i (wordByte c i) h1 h2
         ∙ lay-is over false 0 (wordByte c) i refl)
 
+-- ---- stretches of blocks
+
+module _ (c : ℕ) (over : List ℕ) {r l l₀ : List ℕ} {a i : ℕ} (p : Reach l l₀ (anew (layByte over false 0 (wordByte c))) a i)
+    (h : i + 64 ≤ length l₀) where
+  pub mixed-more : {ow pw u al w : List ℕ} → Lanes ow 32 (WordIs over i) → Lanes pw 16 (SameIs c) → Lanes u 32 (HalfIs pw)
+      → Lanes al 32 (HighIs ow) → Lanes w 32 (MixIs al ow u) → Part r l (anew (storeByte w i)) i (i + 64)
+      → Reach r l₀ (anew (layByte over false 0 (wordByte c))) a (i + 64)
+  mixed-more eo ep eu ea ew q =
+      block-turn p refl (omega arith) (lay-mixed c i (p .border) over eo ep eu (alphas-own eo ea) ew q)
+
+  pub opaque-more : {pw qw w hw : List ℕ} → AllAlpha over i 16 255 → Lanes pw 16 (PixelIs over i) → Lanes qw 16 (SameIs c)
+      → Lanes w 16 (JoinIs pw qw) → Lanes hw 32 (HalfIs w) → Part r l (anew (storeByte hw i)) i (i + 64)
+      → Reach r l₀ (anew (layByte over false 0 (wordByte c))) a (i + 64)
+  opaque-more all ep eq ew eh q = block-turn p refl (omega arith) (lay-copied c i (p .border) over ep eq ew eh all q)
+
 -- ---- a run
 
--- one block more, over the row that the pixel's bytes make
+-- over the row that the pixel's bytes make
+lay-solid : (over : List ℕ) (g : Bool) (a c0 c1 c2 : ℕ) {c : ℕ} {r l : List ℕ} {i j : ℕ} → Bytes c c0 c1 c2 255
+    → Part r l (anew (layByte over g a (wordByte c))) i j
+    → Part r l (anew (layByte over g a (solidByte c0 c1 c2))) i j
+unfolding layByte
+lay-solid over g a c0 c1 c2 {c} b q = part-cong q (λ j h1 h2. ap (overByte over g a j) (wordByte-is c c0 c1 c2 255 j b))
+
+-- one block more
 pub lay-turn : (over : List ℕ) (g : Bool) (a c0 c1 c2 : ℕ) {c : ℕ} {r l l₀ : List ℕ} {i : ℕ}
     → Front l l₀ (anew (layByte over g a (solidByte c0 c1 c2))) i → length l₀ ≡ length over → 64 ≤ length over - i
     → Bytes c c0 c1 c2 255 → Part r l (anew (layByte over g a (wordByte c))) i (i + 64)
     → Front r l₀ (anew (layByte over g a (solidByte c0 c1 c2))) (i + 64)
-unfolding layByte
-lay-turn over g a c0 c1 c2 {c} p e h b q =
-    block-turn p e h (part-cong q (λ j h1 h2. ap (overByte over g a j) (wordByte-is c c0 c1 c2 255 j b)))
+lay-turn over g a c0 c1 c2 p e h b q = block-turn p e h (lay-solid over g a c0 c1 c2 b q)
+
+-- a stretch more
+pub lay-stretch : (over : List ℕ) (g : Bool) (a c0 c1 c2 : ℕ) {c : ℕ} {r l l₀ : List ℕ} {i j : ℕ}
+    → Front l l₀ (anew (layByte over g a (solidByte c0 c1 c2))) i → Bytes c c0 c1 c2 255
+    → Onward r l (anew (layByte over g a (wordByte c))) i j
+    → Front r l₀ (anew (layByte over g a (solidByte c0 c1 c2))) j
+lay-stretch over g a c0 c1 c2 p b q =
+    let s = q .reach in
+    reach-turn p (lay-solid over g a c0 c1 c2 b (s .part)) (s .least) (omega (arith, s .most, p .part .long)) (s .border)
 
 -- the blocks, and then the rest filled and blended
 pub lay-each : (over : List ℕ) (g : Bool) (a : ℕ) {f : ℕ → ℕ} {r k l l₀ : List ℕ} {b : ℕ}

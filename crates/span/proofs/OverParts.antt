@@ -17,11 +17,25 @@ use Rattle.mix.proofs.BlendLaws.{blendOf-clear}
 use Rattle.sixteen.specs.Engine.Lanes.{Part, Reach, Front, Lanes, anew, WordIs, Bytes, PixelIs, HighIs, SameIs, MixIs}
 use Rattle.sixteen.specs.Engine.Lanes.{HalfIs, JoinIs, AllAlpha, storeByte}
 use Rattle.span.specs.Span.{overByte}
-use Rattle.span.specs.Engine.Laid.{Copied}
-use Rattle.sixteen.proofs.PartLaws.{part-none, part-set, part-skip, part-cong, pixel-turn, front-each}
+use Rattle.span.specs.Engine.Laid.{Copied, Onward}
+use Rattle.sixteen.proofs.PartLaws.{part-none, part-set, part-skip, part-cong, reach-none, reach-turn, block-turn, pixel-turn}
+use Rattle.sixteen.proofs.PartLaws.{front-each}
 use Rattle.sixteen.proofs.LaneLaws.{lanes-map, byParity-even, byParity-odd, storeByte-even, storeByte-odd, by-words}
 use Rattle.colours.proofs.PixelLaws.{halves-byte, wordByte-is, pixelByte-is, join-bytes}
 use Rattle.span.proofs.OverLaws.{overByte-channel, overByte-alpha, overByte-clear, overByte-opaque, overByte-own}
+
+-- ---- stretches of blocks
+
+-- one of one block
+pub stretch-one : {l l₀ : List ℕ} {g : ℕ → ℕ → ℕ} {i : ℕ} → i + 64 ≤ length l₀ → i % 4 ≡ 0 → Part l l₀ g i (i + 64)
+    → Onward l l₀ g i (i + 64)
+stretch-one {l₀ = l₀} {g} {i} h m q =
+    record { reach = block-turn (reach-none l₀ g i (omega arith) m) refl (omega arith) q; some = omega arith }
+
+-- one after a part
+pub stretch-then : {r l l₀ : List ℕ} {g : ℕ → ℕ → ℕ} {a i b : ℕ} → Reach l l₀ g a i → Onward r l g i b → Reach r l₀ g a b
+stretch-then p q =
+    reach-turn p (q .reach .part) (q .reach .least) (omega (arith, q .reach .most, p .part .long)) (q .reach .border)
 
 -- ---- blended blocks
 
@@ -74,6 +88,14 @@ pub mix-block : (out over : List ℕ) (g : Bool) (a at : ℕ) → at % 4 ≡ 0 �
     → Lanes al 32 (AlphaIs over at g a) → Lanes w 32 (MixIs al ow uw) → Part l out (anew (storeByte w at)) at (at + 64)
     → Part l out (overByte over g a) at (at + 64)
 mix-block out over g a at h eo eu ea ew p = part-cong p (mix-bytes out over g a at h eo eu ea ew)
+
+-- one more, at its pixels' own alphas
+pub own-mixed : (over : List ℕ) {r l l₀ ow uw al w : List ℕ} {a i : ℕ} → Reach l l₀ (overByte over false 0) a i
+    → i + 64 ≤ length l₀ → Lanes ow 32 (WordIs over i) → Lanes uw 32 (WordIs l i) → Lanes al 32 (HighIs ow)
+    → Lanes w 32 (MixIs al ow uw) → Part r l (anew (storeByte w i)) i (i + 64)
+    → Reach r l₀ (overByte over false 0) a (i + 64)
+own-mixed over p h eo eu ea ew q =
+    block-turn p refl (omega arith) (mix-block _ over false 0 _ (p .border) eo eu (alphas-own eo ea) ew q)
 
 -- ---- clear and opaque blocks
 

@@ -9,8 +9,7 @@ use lib.Ieee.{Float}
 use lib.ListN.{length}
 use Rattle.lists.specs.Choice.{pick}
 use Rattle.lists.specs.Tab.{each}
-use Rattle.words.specs.declared.fields.Ground.{Ground}
-use Rattle.words.specs.Fields.{shownOf, widthOf, groundsOf}
+use Rattle.words.specs.Fields.{shownOf, widthOf}
 use Rattle.frames.specs.Scene.{Scene}
 use Rattle.frames.specs.Band.{bandByte}
 use Rattle.frames.specs.Frame.{fillByte}
@@ -18,7 +17,7 @@ use Rattle.frames.specs.Line.{lineLen}
 use Rattle.plan.specs.declared.Part.{Part}
 use Rattle.plan.specs.declared.Plan.{Plan}
 use Rattle.plan.specs.Engine.Plan.{OfPart}
-use Rattle.scanline.specs.Engine.Lines.{Lent, bandLine, Lends, OfLine}
+use Rattle.scanline.specs.Engine.Lines.{Lent, bandLine, Lends}
 
 -- the most pixels of a line, whose width is a field of 12 bits
 abbrev pub mostPixels : ℕ
@@ -66,12 +65,6 @@ pub record OnLines (part : Part) (y : ℕ) : Type 0 where
   pub from : part .first ≤ y
   pub to : y < part .first + part .count
 
--- line y afterwards has its ground, and over that the plan's part
-pub record LineLaid (Of : Scene → Type 0) (p : Plan) (fresh : Bool) (g : Ground) (y : ℕ)
-    (line line′ : List ℕ) : Type 0 where
-  pub laid : (s : Scene) (part : Part) → Of s → OfLine s line → g ≡ groundsOf (s .words) → OfPart s part p → OnLines part y
-      → line′ ≡ each (laidLine s part fresh y) line
-
--- the whole output has
+-- the output afterwards has the background where the frame is a fresh one, and over that the plan's part
 pub record RowsLaid (Of : Scene → Type 0) (p : Plan) (part : Part) (fresh : Bool) (out out′ : List ℕ) : Type 0 where
   pub laid : (s : Scene) → Of s → OfPart s part p → out′ ≡ each (laidByte s part fresh) out

@@ -24,7 +24,7 @@ use Rattle.frames.specs.Pixel.{spans, ownAt, overAt}
 use Rattle.frames.specs.Band.{pixelAt}
 use Rattle.plan.specs.declared.Step.{Step}
 use Rattle.plan.specs.declared.Plan.{Plan}
-use Rattle.plan.specs.Engine.Plan.{blankStep, isMade, partAt, OfLayer, OfLayers, OfFirst}
+use Rattle.plan.specs.Engine.Plan.{blankStep, isMade, partAt, OfLayer, OfFirst}
 
 -- ---- what a worker asks
 
@@ -173,11 +173,6 @@ OfLine s line = length line ≡ pixelLen * widthOf (s .words)
 -- line y afterwards has the step's layer over it
 pub record Over (Of : Scene → Type 0) (t : Step) (y : ℕ) (line line′ : List ℕ) : Type 0 where
   pub over : (s : Scene) → Of s → OfLine s line → OfLayer s t → line′ ≡ each (lineByte s y (t .number)) line
-
--- it has all layers of the plan over it but the first k
-pub record OverFrom (Of : Scene → Type 0) (p : Plan) (k y : ℕ) (line line′ : List ℕ) : Type 0 where
-  pub over : (s : Scene) (l : List ℕ) → Of s → OfLine s line → OfLayers s l p
-      → line′ ≡ each (lineFrom s y l k) line
 
 -- it has the first k of `count` layers over it, of which the step is the first
 pub record OverTo (Of : Scene → Type 0) (t : Step) (count k y : ℕ) (line line′ : List ℕ) : Type 0 where

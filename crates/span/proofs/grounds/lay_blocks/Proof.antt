@@ -1,14 +1,14 @@
--- `span::grounds::lay_blocks` meets its contract: the loop has laid a part of the run, from its front up
--- to i; the measure is what is left. Assumes nothing.
+-- `span::grounds::lay_blocks` meets its contract: the loop has laid a part of the run, from its front up to i; the measure
+-- is what is left. Assumes nothing.
+use borrow.Author.Needs.{needs}
 use mathlib.Core.Bool.{false}
 use Prim.Native.Nat.{_-_}
 use lib.ListN.{length}
-use borrow.Author.Needs.{needs}
 use Rattle.sixteen.specs.Engine.Lanes.{Front, anew}
 use Rattle.colours.specs.Rows.{solidByte}
 use Rattle.span.specs.Engine.Laid.{layByte}
 use Rattle.sixteen.proofs.PartLaws.{front-none}
-use Rattle.span.proofs.GroundLaws.{lay-turn}
+use Rattle.span.proofs.GroundLaws.{lay-stretch}
 use Rattle.span.proofs.grounds.lay_blocks.Statement.{statement}
 use Rattle.span.proofs.grounds.lay_blocks.Tie as tie
 
@@ -27,17 +27,14 @@ loop-holds c = front-none _ _
 sub-loop : tie.Need-sub-loop Inv-loop μ-loop
 sub-loop c = search needs
 
-lay-block-requires : tie.Need-lay-block-requires Inv-loop μ-loop
-lay-block-requires c κs = search needs
-
-add-i : tie.Need-add-i Inv-loop μ-loop
-add-i c = search needs
+lay-turn-requires : tie.Need-lay-turn-requires Inv-loop μ-loop
+lay-turn-requires c κs = search needs
 
 loop-less : tie.Need-loop-less Inv-loop μ-loop
 loop-less c = search needs
 
 loop-again : tie.Need-loop-again Inv-loop μ-loop
-loop-again c = search (lay-turn, needs)
+loop-again c = search (lay-stretch, needs)
 
 same-length : tie.Need-same-length Inv-loop μ-loop
 same-length c = search needs
@@ -54,8 +51,7 @@ lay-blocks-spec =
     pixel-of-requires
     loop-holds
     sub-loop
-    lay-block-requires
-    add-i
+    lay-turn-requires
     loop-less
     loop-again
     same-length

@@ -1,12 +1,13 @@
--- `span::runs::own_blocks` meets its contract: the loop has done a part of the run, from its front
--- up to i; the measure is what is left. Assumes nothing.
+-- `span::runs::own_blocks` meets its contract: the loop has done a part of the run, from its front up to i; the measure
+-- is what is left. Assumes nothing.
+use borrow.Author.Needs.{needs}
 use mathlib.Core.Bool.{false}
 use Prim.Native.Nat.{_-_}
 use lib.ListN.{length}
-use borrow.Author.Needs.{needs}
 use Rattle.sixteen.specs.Engine.Lanes.{Front}
 use Rattle.span.specs.Span.{overByte}
-use Rattle.sixteen.proofs.PartLaws.{block-turn, front-none}
+use Rattle.sixteen.proofs.PartLaws.{front-none}
+use Rattle.span.proofs.OverParts.{stretch-then}
 use Rattle.span.proofs.runs.own_blocks.Statement.{statement}
 use Rattle.span.proofs.runs.own_blocks.Tie as tie
 
@@ -22,17 +23,14 @@ loop-holds c = front-none _ _
 sub-loop : tie.Need-sub-loop Inv-loop μ-loop
 sub-loop c = search needs
 
-block-requires : tie.Need-block-requires Inv-loop μ-loop
-block-requires c κs = search needs
-
-add-i : tie.Need-add-i Inv-loop μ-loop
-add-i c = search needs
+own-turn-requires : tie.Need-own-turn-requires Inv-loop μ-loop
+own-turn-requires c κs = search needs
 
 loop-less : tie.Need-loop-less Inv-loop μ-loop
 loop-less c = search needs
 
 loop-again : tie.Need-loop-again Inv-loop μ-loop
-loop-again c = search (block-turn, needs)
+loop-again c = search (stretch-then, needs)
 
 same-length : tie.Need-same-length Inv-loop μ-loop
 same-length c = search needs
@@ -48,8 +46,7 @@ own-blocks-spec =
     μ-loop
     loop-holds
     sub-loop
-    block-requires
-    add-i
+    own-turn-requires
     loop-less
     loop-again
     same-length
