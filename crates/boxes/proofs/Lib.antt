@@ -1,3 +1,3 @@
--- The laws that the proofs here rest on. Assumes nothing.
-mod BoxLaws
+-- The laws that the proofs here rest on; `BoxLaws` serves `pen` too. Assumes nothing.
+pub mod BoxLaws
 mod LineLaws

@@ -3,7 +3,8 @@
 use Prim.Native.Nat.{ℕ, _*_, _/_, _%_, _<_}
 use mathlib.Core.Path.{_≡_}
 use mathlib.Core.List.{List, [], _∷_}
-use lib.ListN.{getD}
+use lib.ListN.{length, getD}
+use Rattle.lists.specs.Tab.{tab}
 use Rattle.mix.specs.Pixel.{pixelLen, opaque}
 
 -- ---- a colour table
@@ -36,6 +37,10 @@ wordByte c = pixelByte (c % 256) (c / 256 % 256) (c / 65536 % 256) (c / 16777216
 -- as an instruction's is.
 unfoldable pub colourByte : List ℕ → List ℕ → ℕ → ℕ
 colourByte line palette i = wordByte (getD palette (getD line (i / pixelLen) 0 % colourCount) 0) i
+
+-- all of them
+abbrev pub colourRow : List ℕ → List ℕ → List ℕ
+colourRow line palette = tab (pixelLen * length line) (colourByte line palette)
 
 -- the words of a palette are the colours of a bank
 pub record PaletteOf (palette colours : List ℕ) : Type 0 where

@@ -10,6 +10,8 @@ ghost use Rattle.colours.specs.Rows.{paletteLen, colourByte, solidByte, 
 mod rows;
 
 pub use rows::fill_rest;
+pub use rows::index_of;
+pub use rows::is_same;
 pub use rows::repeat16;
 use sixteen::pixels::pixels;
 
@@ -24,12 +26,12 @@ pub fn palette(colours: &[u8]) -> [u32; 16]
 
 // Writes a line of colour indexes as a row of pixels. The palette comes as words, made once, since
 // a pixel is then one read and one store.
-pub fn expand(line: &[u8], palette: [u32; 16], row: &mut [u8])
+pub fn expand(line: &[u8], palette: &[u32; 16], row: &mut [u8])
     requires { ⌜ length (now row) ≡ pixelLen * length (now line) ⌝ }
-    ensures { λ _. ⌜ now (row .exit) ≡ tab (length (now (row .entry))) (colourByte (now (line .entry)) palette) ⌝ }
+    ensures { λ _. ⌜ now (row .exit) ≡ tab (length (now (row .entry))) (colourByte (now (line .entry)) (now (palette .entry))) ⌝ }
 {
-    let j = rows::expand_blocks(line, &palette, row);
-    rows::expand_rest(line, &palette, row, j);
+    let j = rows::expand_blocks(line, palette, row);
+    rows::expand_rest(line, palette, row, j);
 }
 
 // Fills a row with one opaque colour.

@@ -24,7 +24,7 @@ use sixteen::sizes::BLOCK_PIXELS;
 use sixteen::sizes::COLOURS;
 
 // An index into the palette.
-fn index_of(x: u8) -> usize
+pub fn index_of(x: u8) -> usize
     ensures { λ r. ⌜ (r ≡ x % 16) × (r < 16) ⌝ }
 {
     (x % COLOURS) as usize
@@ -84,12 +84,12 @@ fn eight_times(c: u8) -> u64
     (c as u64) * 72340172838076673
 }
 
-// Whether the sixteen indexes from j on are one. Eight are compared at once.
-fn is_one(line: &[u8], j: usize) -> bool
+// Whether the sixteen indexes from j on are all x. Eight are compared at once.
+pub fn is_same(line: &[u8], j: usize, x: u8) -> bool
     requires { ⌜ j + 16 ≤ length (now line) ⌝ }
-    ensures { λ r. ⌜ (r ≡ true → Same (now (line .entry)) j 16 (getD (now (line .entry)) j 0)) ⌝ }
+    ensures { λ r. ⌜ (r ≡ true → Same (now (line .entry)) j 16 x) ⌝ }
 {
-    let q = eight_times(line[j]);
+    let q = eight_times(x);
     if eight(line, j) != q {
         return false;
     }
@@ -133,8 +133,9 @@ fn expand_block(line: &[u8], palette: &[u32; 16], row: &mut [u8], j: usize)
     ensures { λ _. ⌜ Part (now (row .exit)) (now (row .entry))
         (anew (colourByte (now (line .entry)) (now (palette .entry)))) (4 * j) (4 * (j + 16)) ⌝ }
 {
-    if is_one(line, j) {
-        let c = palette[index_of(line[j])];
+    let x = line[j];
+    if is_same(line, j, x) {
+        let c = palette[index_of(x)];
         repeat16(row, PIXEL_LEN * j, c);
         return;
     }

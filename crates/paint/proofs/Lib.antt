@@ -1,6 +1,7 @@
 -- The laws of this crate. Assumes nothing.
 pub mod FrameLaws
 pub mod GroundLaws
+pub mod ExtentLaws
 pub mod RowsLaws
 pub mod PartLaws
 pub mod Unique

@@ -1,3 +1,4 @@
--- The laws that the proofs here rest on; `Unique` is that of one outcome. Assumes nothing.
+-- The laws that the proofs here rest on; `Unique` has those of one outcome. Assumes nothing.
 mod LineLaws
+mod SpanLaws
 pub mod Unique

@@ -35,6 +35,9 @@ withErrors p errors = record { steps = p .steps; count = p .count; drawn = p .dr
 pub made-floats : (l : Layer) → l .floats ≡ true → isMade l ≡ true
 made-floats l f = ap (either (l .graphics)) f ∙ either-any (l .graphics)
 
+pub made-graphics : (l : Layer) → l .graphics ≡ true → isMade l ≡ true
+made-graphics l g = rw g
+
 -- ---- one layer more
 
 module _ (bits : ℕ) (w : List ℕ) (frame : ℕ) (tables : List ℕ) where

@@ -1,26 +1,27 @@
 -- A line of colour indexes through a layer's colours is a row of that layer. Assumes nothing.
-use mathlib.Core.Path.{_≡_, refl, ap, _∙_}
+use mathlib.Core.Path.{_≡_, ap, _∙_}
 use mathlib.Core.List.{List}
 use Prim.Native.Nat.{ℕ, _+_, _-_, _*_, _/_, _%_, _≤_, _<_}
 use native.Mathlib.Omega.{arith}
-use lib.ListN.{getD, take, drop}
+use lib.ListN.{length, getD, take, drop}
 use Rattle.lists.specs.Tab.{tab}
-use Rattle.lists.proofs.Tab.{getD-tab}
+use Rattle.lists.proofs.Tab.{length-tab, getD-tab}
 use Rattle.profiles.specs.Profile.{bitsOf}
 use Rattle.tables.specs.Geometry.{tablesLen, kindLen, listKind, coloursKind, stringsKind, fontKind}
-use Rattle.tables.specs.Geometry.{listLen, stringsLen, fontLen}
+use Rattle.tables.specs.Geometry.{instructions, listLen, stringsLen, fontLen}
 use Rattle.tables.specs.Selection.{activeAt}
 use Rattle.tables.proofs.Geometry.{bank-room}
 use Rattle.draw.specs.Engine.Tables.{Tables}
 use Rattle.draw.specs.Drawing.{countOf, indexAt}
 use Rattle.draw.proofs.IndexLaws.{indexAt-lt}
-use Rattle.colours.specs.Rows.{colourByte, PaletteOf}
+use Rattle.pen.specs.Engine.Spans.{Spanned}
+use Rattle.colours.specs.Rows.{colourByte, colourRow, PaletteOf}
 use Rattle.colours.proofs.RowLaws.{colourByte-is}
 use Rattle.frames.specs.Scene.{Scene}
 use Rattle.frames.specs.Pixel.{bankBytes, colourIndex, graphicsAt}
 use Rattle.plan.specs.declared.Step.{Step}
 use Rattle.plan.specs.Engine.Plan.{partAt, OfLayer}
-use Rattle.scanline.specs.Engine.Lines.{Banked, drawnRow, Draws}
+use Rattle.scanline.specs.Engine.Lines.{Banked, Extended, drawnIndexes, Draws}
 use Rattle.plan.proofs.PartLaws.{part-is, length-lent}
 
 -- ---- the banks
@@ -71,13 +72,15 @@ module _ (bits : ℕ) (w tables : List ℕ) (n v pixels : ℕ) (indexes row pale
       ∙ rw (q, r, i)
 
 -- in a scene that lends the tables, it is the layer's
-pub row-drawn : (s : Scene) (t : Step) → OfLayer s t → (tables : List ℕ) (v pixels : ℕ) (row : List ℕ) → Draws tables s
-    → row ≡ drawnRow tables t v pixels → (u c : ℕ) → u < pixels → c < 4
-    → getD row (4 * u + c) 0 ≡ graphicsAt (bitsOf (s .profile)) (s .words) (s .tables) (t .number) v u c
-unfolding drawnRow
-row-drawn s t m tables v pixels row same e =
-    drawn-is (bitsOf (s .profile)) (s .words) (s .tables) (t .number) v pixels _ row (t .palette) refl
-    (rw (← same, list-is s t m, strings-is s t m, font-is s t m, m .glyph) at e) (m .palette)
+pub row-drawn : (s : Scene) (t : Step) → OfLayer s t → (tables : List ℕ) (v pixels : ℕ) (indexes : List ℕ) → Draws tables s
+    → indexes ≡ drawnIndexes tables t v pixels → (u c : ℕ) → u < pixels → c < 4
+    → getD (colourRow indexes (t .palette)) (4 * u + c) 0
+    ≡ graphicsAt (bitsOf (s .profile)) (s .words) (s .tables) (t .number) v u c
+unfolding drawnIndexes
+row-drawn s t m tables v pixels indexes same e =
+    drawn-is (bitsOf (s .profile)) (s .words) (s .tables) (t .number) v pixels indexes _ (t .palette)
+    (rw (← same, list-is s t m, strings-is s t m, font-is s t m, m .glyph) at e)
+    (ap (λ (n : ℕ). tab (4 * n) (colourByte indexes (t .palette))) (ap length e ∙ length-tab _ _)) (m .palette)
 
 -- ---- as the code has it, with the parts as the borrow checker writes them
 
@@ -97,17 +100,26 @@ module _ (tables : List ℕ) (t : Step) (k : Banked tables t) where
   pub banked-count : t .end .count ≡ countOf (take (t .list + listLen - t .list) (drop (t .list) tables))
   banked-count = rw (part-is tables (t .list) listLen) (k .count)
 
-pub banked-row : (tables : List ℕ) (t : Step) (v pixels long : ℕ) (indexes row : List ℕ)
+pub banked-indexes : (tables : List ℕ) (t : Step) (v pixels : ℕ) (indexes : List ℕ)
     → indexes ≡ tab pixels (indexAt (t .bits) (take (t .list + listLen - t .list) (drop (t .list) tables))
     (take (t .strings + stringsLen - t .strings) (drop (t .strings) tables))
     (take (t .font + fontLen (t .bits) - t .font) (drop (t .font) tables)) v)
-    → row ≡ tab long (colourByte indexes (t .palette)) → long ≡ 4 * pixels → row ≡ drawnRow tables t v pixels
-unfolding drawnRow
-banked-row tables t v pixels long indexes row e f q =
+    → indexes ≡ drawnIndexes tables t v pixels
+unfolding drawnIndexes
+banked-indexes tables t v pixels indexes e =
     rw (
-      q,
-      e,
       part-is tables (t .list) listLen,
       part-is tables (t .strings) stringsLen,
       part-is tables (t .font) (fontLen (t .bits)),
-    ) at f
+    ) at e
+
+-- and the spans of its instructions
+pub extended-spans : (tables extents : List ℕ) (t : Step) (at : ℕ) → Extended tables extents at t
+    → Spanned (take (t .list + listLen - t .list) (drop (t .list) tables)) (t .end .count)
+    (take (at + instructions - at) (drop at extents))
+extended-spans tables extents t at k = rw (part-is tables (t .list) listLen, part-is extents at instructions) (k .spanned)
+
+-- as many colour indexes as there is room for
+pub length-indexes : (tables : List ℕ) (t : Step) (v pixels : ℕ) → length (drawnIndexes tables t v pixels) ≡ pixels
+unfolding drawnIndexes
+length-indexes tables t v pixels = length-tab _ _

@@ -24,10 +24,10 @@ use Rattle.frames.specs.Pixel.{spans}
 use Rattle.plan.specs.declared.Step.{Step}
 use Rattle.plan.specs.declared.Plan.{Plan}
 use Rattle.plan.specs.declared.Part.{Part}
-use Rattle.plan.specs.Engine.Plan.{blankStep, isMade, partLayers, OfLayer, OfLayers}
-use Rattle.scanline.specs.Engine.Lines.{Lent, Banked, Pictured, Fit, AllFit, Makable, OnRow, pictureEnd}
+use Rattle.plan.specs.Engine.Plan.{blankStep, partLayers, OfLayer, OfLayers}
+use Rattle.scanline.specs.Engine.Lines.{Lent, Banked, Pictured, Fit, AllFit, OnRow, pictureEnd}
 use Rattle.scanline.specs.Engine.Lines.{rowStart}
-use Rattle.plan.proofs.PlanLaws.{partLayers-enabled, length-partLayers-le, planned-layer, made-floats}
+use Rattle.plan.proofs.PlanLaws.{partLayers-enabled, length-partLayers-le, planned-layer, made-floats, made-graphics}
 use Rattle.scanline.proofs.DrawLaws.{active-room, list-is}
 
 pub on-row : (t : Step) (y : ℕ) → spans (t .layer .y) (t .layer .height) y ≡ true → OnRow t y
@@ -93,18 +93,13 @@ row-fits t y long wide r room =
     let turned = mul-comm (t .layer .height) (t .layer .width) in
     omega arith
 
--- and what a row of it is made from is there
-pub step-makable : {tables pictures : List ℕ} {floats : List Float} (bytes : ℕ) (t : Step) (y : ℕ)
-    → Fit tables pictures floats bytes t → OnRow t y → isMade (t .layer) ≡ true → Makable tables floats t y
-step-makable bytes t y k r made =
-    record {
-      made = made;
-      banked = k .banked;
-      flows = λ g. row-fits t y _ (k .pictured .wide) r (k .pictured .flows g (rw g at made));
-    }
-
--- a plan whose first step is a float layer is a drawn one
+-- a plan whose first step is a float layer is a drawn one, and so is one whose first step is a graphics layer
 pub first-drawn : {tables pictures : List ℕ} {floats : List Float} {bytes : ℕ} {p : Plan}
     → AllFit tables pictures floats bytes p → 0 < p .count → getD (p .steps) 0 blankStep .layer .floats ≡ true
     → p .drawn ≡ true
 first-drawn {p = p} k h f = k .drawn 0 h (made-floats (getD (p .steps) 0 blankStep .layer) f)
+
+pub graphics-drawn : {tables pictures : List ℕ} {floats : List Float} {bytes : ℕ} {p : Plan}
+    → AllFit tables pictures floats bytes p → (j : ℕ) → j < p .count → getD (p .steps) j blankStep .layer .graphics ≡ true
+    → p .drawn ≡ true
+graphics-drawn {p = p} k j h g = k .drawn j h (made-graphics (getD (p .steps) j blankStep .layer) g)

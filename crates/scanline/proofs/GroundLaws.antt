@@ -1,9 +1,9 @@
 -- The ground of a line, and the first layer with it. Assumes nothing.
 use mathlib.Core.Path.{_≡_, refl, ap}
-use mathlib.Core.Bool.{Bool, true, false, not}
+use mathlib.Core.Bool.{Bool, true, false}
 use mathlib.Core.List.{List, [], _∷_}
 use Prim.Native.Nat.{ℕ, zero, suc, _<_}
-use borrow.Author.Tests.{not-true, eqb-true, ltb-true}
+use borrow.Author.Tests.{eqb-true, ltb-true}
 use lib.Dec.{eqb, ltb}
 use lib.ListN.{length}
 use Rattle.lists.specs.Choice.{both}
@@ -32,14 +32,10 @@ ground-filled g out = tab-each _ out
 
 -- ---- the first layer with it
 
-pub whole-line : (t : Step) (pixels y : ℕ) → wholeLine t pixels y ≡ true
-    → (t .layer .graphics ≡ false) × (t .wide ≡ pixels) × OnRow t y
+pub whole-line : (t : Step) (pixels y : ℕ) → wholeLine t pixels y ≡ true → (t .wide ≡ pixels) × OnRow t y
 unfolding wholeLine
 whole-line t pixels y e =
-    let frame = both-left (not (t .layer .graphics)) _ e in
-    let rest = both-right (not (t .layer .graphics)) _ e in
-    let wide = both-left (eqb (t .wide) pixels) _ rest in
-    let row = both-right (eqb (t .wide) pixels) _ rest in (not-true _ frame, eqb-true _ _ wide, on-row t y row)
+    (eqb-true _ _ (both-left (eqb (t .wide) pixels) _ e), on-row t y (both-right (eqb (t .wide) pixels) _ e))
 
 pub laid-first : (fresh : Bool) (count : ℕ) (t : Step) (pixels y : ℕ)
     → both fresh (both (ltb 0 count) (wholeLine t pixels y)) ≡ true

@@ -20,6 +20,7 @@ use Rattle.lists.proofs.Steps.{through-none, through-id, through-cong, through-
 use Rattle.mix.specs.Blend.{blendOf}
 use Rattle.words.specs.declared.fields.Layer.{Layer}
 use Rattle.words.specs.Fields.{widthOf, layerOf}
+use Rattle.colours.specs.Rows.{colourRow}
 use Rattle.span.specs.Span.{overByte}
 use Rattle.river.specs.River.{bytesFrom}
 use Rattle.river.proofs.RiverLaws.{bytes-part}
@@ -31,17 +32,11 @@ use Rattle.frames.specs.Pixel.{bufferOf, pictureAt, ownAt, fadedOf, alphaAt, sp
 use Rattle.frames.specs.Band.{bandBy}
 use Rattle.plan.specs.declared.Part.{Part}
 use Rattle.plan.specs.Engine.Plan.{leftEnd, wideOf, reaches, taken, partLayers, OfLayer}
-use Rattle.scanline.specs.Engine.Lines.{OnRow, rowStart, drawnRow, lineByte, lineTo, lineFrom, bandLine, Shows}
+use Rattle.scanline.specs.Engine.Lines.{OnRow, rowStart, drawnIndexes, lineByte, lineTo, lineFrom, bandLine, Shows}
 use Rattle.scanline.specs.Engine.Lines.{Draws, Flows, OfLine}
 use Rattle.plan.proofs.PartLaws.{part-is}
 use Rattle.scanline.proofs.DrawLaws.{row-drawn}
 use Rattle.frames.proofs.BandLaws.{band-through}
-
--- with each pixel of a run at its own alpha the one alpha is not looked at
-pub over-own : (run : List ℕ) (alpha : ℕ) (line : List ℕ)
-    → each (overByte run false 0) line ≡ each (overByte run false alpha) line
-unfolding overByte
-over-own run alpha line = each-cong _ _ line (λ i p. refl)
 
 -- ---- a pixel, and a line, that the layer does not reach
 
@@ -163,14 +158,15 @@ module _ (s : Scene) (y : ℕ) (t : Step) (m : OfLayer s t) where
       rw (r, ← same, e, bytes-part (s .floats) (rowStart t y) n, part-is (bytesFrom (s .floats)) (rowStart t y) (4 * t .wide))
       (getD-part (bytesFrom (s .floats)) _ (4 * t .wide) (4 * u + c) (omega arith) ∙ rw f at (frame-own g u c))
 
-  -- of a graphics layer: the row that was drawn
-  pub graphics-own : (tables : List ℕ) (pixels : ℕ) (row : List ℕ) → Draws tables s → t .layer .graphics ≡ true
-      → row ≡ drawnRow tables t (y - t .layer .y) pixels → pixels ≡ t .wide
-      → (u c : ℕ) → u < t .wide → c < 4 → getD row (4 * u + c) 0 ≡ ownAt s (t .number) (y - t .layer .y) u c
+  -- of a graphics layer: the colour indexes that were drawn, through its colours
+  pub graphics-own : (tables : List ℕ) (pixels : ℕ) (indexes : List ℕ) → Draws tables s → t .layer .graphics ≡ true
+      → indexes ≡ drawnIndexes tables t (y - t .layer .y) pixels → pixels ≡ t .wide
+      → (u c : ℕ) → u < t .wide → c < 4
+      → getD (colourRow indexes (t .palette)) (4 * u + c) 0 ≡ ownAt s (t .number) (y - t .layer .y) u c
   unfolding ownAt
-  graphics-own tables pixels row same g d q u c h hc =
+  graphics-own tables pixels indexes same g d q u c h hc =
       let f : layerOf (s .words) (t .number) .graphics ≡ true = rw (m .layer) at g in
-      rw f (row-drawn s t m tables _ pixels row same d u c (omega arith) hc)
+      rw f (row-drawn s t m tables _ pixels indexes same d u c (omega arith) hc)
 
   -- such a row at the front of its room
   pub front-own : (n : ℕ) (row rest : List ℕ) → length row ≡ n

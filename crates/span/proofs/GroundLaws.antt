@@ -31,7 +31,7 @@ module _ (c at : ℕ) (h : at % 4 ≡ 0) where
   abbrev row : List ℕ
   row = tab (at + 64) (wordByte c)
 
-  ground-words : {p u : List ℕ} → Lanes p 16 (SameIs c) → Lanes u 32 (HalfIs p) → Lanes u 32 (WordIs row at)
+  pub ground-words : {p u : List ℕ} → Lanes p 16 (SameIs c) → Lanes u 32 (HalfIs p) → Lanes u 32 (WordIs row at)
   ground-words {p} {u} ep eu = record {
     lane = λ k lt. record {
       low = sym (storeByte-even u at k) ∙ byte (at + 2 * k) (omega arith) (omega arith);
@@ -44,7 +44,7 @@ module _ (c at : ℕ) (h : at % 4 ≡ 0) where
           halves-byte p u at h eu i h1 h2 ∙ ap (λ (v : ℕ). wordByte v i) (ep .lane ((i - at) / 4) (omega arith) .is)
           ∙ sym (getD-tab (at + 64) (wordByte c) i h2)
 
-  ground-pixels : {q : List ℕ} → Lanes q 16 (SameIs c) → Lanes q 16 (PixelIs row at)
+  pub ground-pixels : {q : List ℕ} → Lanes q 16 (SameIs c) → Lanes q 16 (PixelIs row at)
   ground-pixels {q} eq = record {
     lane = λ k lt. record {
       bytes = rw (eq .lane k lt .is) (record {

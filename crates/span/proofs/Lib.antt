@@ -1,6 +1,7 @@
--- The laws of the crate; `OverLaws` is for the crates above, `Unique` is that of one outcome. Assumes
+-- The laws of the crate; `OverLaws` and `TintLaws` are for the crates above, `Unique` is that of one outcome. Assumes
 -- nothing.
 pub mod OverLaws
 mod OverParts
 mod GroundLaws
+pub mod TintLaws
 pub mod Unique

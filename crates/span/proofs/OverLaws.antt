@@ -1,5 +1,5 @@
 -- Laws of `overByte`. Assumes nothing.
-use mathlib.Core.Path.{_≡_, sym, _∙_}
+use mathlib.Core.Path.{_≡_, refl, sym, _∙_}
 use mathlib.Core.Bool.{Bool, true, false}
 use mathlib.Core.Logic.{⊎-elim}
 use mathlib.Core.List.{List}
@@ -10,7 +10,7 @@ use borrow.Author.Tests.{eq-eqb, ne-eqb}
 use Rattle.lists.specs.Choice.{pick}
 use Rattle.lists.specs.Tab.{each}
 use Rattle.lists.proofs.Choice.{split}
-use Rattle.lists.proofs.Tab.{each-id}
+use Rattle.lists.proofs.Tab.{each-id, each-cong}
 use Rattle.mix.specs.Blend.{blendOf}
 use Rattle.mix.proofs.BlendLaws.{blendOf-clear, blendOf-opaque}
 use Rattle.span.specs.Span.{overByte}
@@ -59,3 +59,9 @@ module _ (over : List ℕ) where
       → overByte over true a i p ≡ overByte over false 0 i p
   overByte-own i p q a e h = overByte-cong over true a false 0 i p
       (λ lt. overByte-channel over true a i p q lt e ∙ rw (← h) (sym (overByte-channel over false 0 i p q lt e)))
+
+-- with each pixel of a run at its own alpha the one alpha is not looked at
+pub over-own : (run : List ℕ) (alpha : ℕ) (line : List ℕ)
+    → each (overByte run false 0) line ≡ each (overByte run false alpha) line
+unfolding overByte
+over-own run alpha line = each-cong _ _ line (λ i p. refl)

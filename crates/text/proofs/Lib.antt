@@ -1,5 +1,5 @@
--- The laws that the proofs here rest on. Assumes nothing.
+-- The laws that the proofs here rest on; `TextLaws` serves `pen` too. Assumes nothing.
 mod BitLaws
 mod ValueLaws
-mod TextLaws
+pub mod TextLaws
 mod LineLaws

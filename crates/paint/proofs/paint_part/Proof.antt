@@ -82,7 +82,7 @@ returns-2 c =
     ∙ not-false _ (c .before .before .before .before .before .before .if1 .left) in
     part-on _ _ _ _ _ _ _ on (marked p ∙ marks-is _ _ _ _ (a .pre .1 .low) (a .pre .1 .high))
     (c .before .before .paint-rows .ensures .laid _
-    (refl, record { makes = record { draws = refl; flows = refl }; pours = record { shows = refl; flows = refl } })
+    (refl, record { draws = refl; shows = refl; flows = refl })
     (record { order = a .pre .1 .low; end = a .pre .1 .high; planned = planned p }))
 
 pub paint-part-spec : {M : Type 1} → statement M

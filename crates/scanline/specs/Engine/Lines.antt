@@ -3,7 +3,7 @@
 -- buffers and whose layer the step is. No definition of the document rests on these. Assumes nothing.
 use Prim.Native.Nat.{ℕ, _+_, _-_, _*_, _/_, _%_, _<_, _≤_}
 use mathlib.Core.Path.{_≡_}
-use mathlib.Core.Bool.{Bool, true, false, not}
+use mathlib.Core.Bool.{Bool, true, false}
 use mathlib.Core.List.{List}
 use lib.ListN.{length, getD, take, drop}
 use lib.Dec.{eqb}
@@ -16,9 +16,11 @@ use Rattle.profiles.specs.Profile.{bitsOf}
 use Rattle.words.specs.declared.fields.Ground.{Ground}
 use Rattle.words.specs.Fields.{widthOf}
 use Rattle.words.specs.Pictures.{picturesLen}
-use Rattle.tables.specs.Geometry.{tablesLen, listLen, stringsLen, fontLen}
+use Rattle.tables.specs.Geometry.{tablesLen, instructions, listLen, stringsLen, fontLen}
 use Rattle.draw.specs.Drawing.{countOf, indexAt}
 use Rattle.colours.specs.Rows as rows
+use Rattle.span.specs.Engine.Tints.{Grounded}
+use Rattle.pen.specs.Engine.Spans.{Spanned}
 use Rattle.frames.specs.Scene.{Scene}
 use Rattle.frames.specs.Pixel.{spans, ownAt, overAt}
 use Rattle.frames.specs.Band.{pixelAt}
@@ -43,6 +45,17 @@ pub record Banked (tables : List ℕ) (t : Step) : Type 0 where
   pub strings : t .strings + stringsLen ≤ length tables
   pub font : t .font + fontLen (t .bits) ≤ length tables
   pub count : t .end .count ≡ countOf (partAt tables (t .list) listLen)
+
+-- from `at` on stand the spans of the instructions of a step's list
+pub record Extended (tables extents : List ℕ) (at : ℕ) (t : Step) : Type 0 where
+  pub room : at + instructions ≤ length extents
+  pub spanned : Spanned (partAt tables (t .list) listLen) (t .end .count) (partAt extents at instructions)
+
+-- what a graphics layer is drawn from
+pub record Drawable (tables extents : List ℕ) (at : ℕ) (t : Step) : Type 0 where
+  pub graphics : t .layer .graphics ≡ true
+  pub banked : Banked tables t
+  pub extended : Extended tables extents at t
 
 -- the part of a line that a step paints lies on it, where the line has so many bytes
 abbrev pub OnLine : Step → ℕ → Type 0
@@ -88,28 +101,26 @@ rowStart t y = t .start + pixelLen * ((y - t .layer .y) * t .layer .width)
 abbrev pub RowFlows : List Float → Step → ℕ → Type 0
 RowFlows floats t y = rowStart t y + pixelLen * t .wide ≤ length floats
 
--- what a row is made from: the banks of a graphics layer, the floats of any other
-pub record Makable (tables : List ℕ) (floats : List Float) (t : Step) (y : ℕ) : Type 0 where
-  pub made : isMade (t .layer) ≡ true
-  pub banked : t .layer .graphics ≡ true → Banked tables t
-  pub flows : t .layer .graphics ≡ false → RowFlows floats t y
+-- what a line's lowest layer is laid from together with the ground, if it is a graphics layer: a palette of its colours
+-- over the background, and room for its colour indexes
+pub record FirstDrawn (bytes : ℕ) (indexes tables extents under : List ℕ) (g : Ground) (t : Step) : Type 0 where
+  pub room : bytes ≤ pixelLen * length indexes
+  pub banked : Banked tables t
+  pub extended : Extended tables extents 0 t
+  pub grounded : Grounded (t .palette) (t .layer .global) (t .alpha) (g .c0) (g .c1) (g .c2) under
 
--- the layer is a picture that takes up the whole of line y, which has so many pixels
+-- the layer takes up the whole of line y, which has so many pixels
 unfoldable pub wholeLine : Step → ℕ → ℕ → Bool
-wholeLine t pixels y =
-    both (not (t .layer .graphics)) (both (eqb (t .wide) pixels) (spans (t .layer .y) (t .layer .height) y))
+wholeLine t pixels y = both (eqb (t .wide) pixels) (spans (t .layer .y) (t .layer .height) y)
 
 -- ---- bytes
 
--- so many pixels of row v of a graphics layer: the colour indexes that its banks draw, through its colours
-unfoldable pub drawnRow : List ℕ → Step → ℕ → ℕ → List ℕ
-drawnRow tables t v pixels =
-    tab (pixelLen * pixels)
-    (rows.colourByte
-    (tab pixels
+-- so many pixels of row v of a graphics layer: the colour indexes that its banks draw
+unfoldable pub drawnIndexes : List ℕ → Step → ℕ → ℕ → List ℕ
+drawnIndexes tables t v pixels =
+    tab pixels
     (indexAt (t .bits) (partAt tables (t .list) listLen) (partAt tables (t .strings) stringsLen)
-    (partAt tables (t .font) (fontLen (t .bits))) v))
-    (t .palette))
+    (partAt tables (t .font) (fontLen (t .bits))) v)
 
 -- byte i of line y with layer n over it
 unfoldable pub lineByte : Scene → ℕ → ℕ → ℕ → ℕ → ℕ
@@ -146,20 +157,11 @@ Draws tables s = s .tables ≡ tables
 abbrev pub Flows : List Float → Scene → Type 0
 Flows floats s = s .floats ≡ floats
 
--- what rows are made from
-pub record Makes (tables : List ℕ) (floats : List Float) (s : Scene) : Type 0 where
-  pub draws : Draws tables s
-  pub flows : Flows floats s
-
--- what pictures are taken from
-pub record Pours (pictures : List ℕ) (floats : List Float) (s : Scene) : Type 0 where
-  pub shows : Shows pictures s
-  pub flows : Flows floats s
-
 -- all of them
 pub record Lends (tables pictures : List ℕ) (floats : List Float) (s : Scene) : Type 0 where
-  pub makes : Makes tables floats s
-  pub pours : Pours pictures floats s
+  pub draws : Draws tables s
+  pub shows : Shows pictures s
+  pub flows : Flows floats s
 
 -- a row holds the step's pixels of line y
 pub record RowMade (Of : Scene → Type 0) (t : Step) (y : ℕ) (row : List ℕ) : Type 0 where

@@ -5,11 +5,11 @@ use Rattle.colours.proofs.RowParts.{colour-same}
 use Rattle.colours.proofs.rows.expand_block.Statement.{statement}
 use Rattle.colours.proofs.rows.expand_block.Tie as tie
 
-is-one-requires : tie.Need-is-one-requires
-is-one-requires c κs = search needs
+shared-slice-read-x : tie.Need-shared-slice-read-x
+shared-slice-read-x c = search needs
 
-shared-slice-read-index-of : tie.Need-shared-slice-read-index-of
-shared-slice-read-index-of c = search needs
+is-same-requires : tie.Need-is-same-requires
+is-same-requires c κs = search needs
 
 index-of-requires : tie.Need-index-of-requires
 index-of-requires c κs = search needs
@@ -32,9 +32,9 @@ same-length c = search needs
 returns : tie.Need-returns
 returns c =
     let index = c .before .before .before .before .before in
-    let tested = index .before .before .before in
+    let tested = index .before in
     colour-same _ _ _ _ (c .before .before .repeat16 .ensures) (index .index-of .ensures .0)
-    (tested .is-one .ensures (index .before .before .if1 .taken))
+    (tested .before .is-same .ensures (tested .if1 .taken))
 
 expand16-requires : tie.Need-expand16-requires
 expand16-requires c κs = search needs
@@ -49,8 +49,8 @@ pub expand-block-spec : {M : Type 1} → statement M
 expand-block-spec =
     tie.close
     (tie.spec
-    is-one-requires
-    shared-slice-read-index-of
+    shared-slice-read-x
+    is-same-requires
     index-of-requires
     mul-c
     element-copy-out-c

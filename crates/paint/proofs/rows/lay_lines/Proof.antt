@@ -18,7 +18,7 @@ use Rattle.scanline.specs.Engine.Lines.{lineFrom, Lends, OfLine}
 use Rattle.paint.specs.Engine.Rows.{rowsByte, Holds}
 use Rattle.plan.proofs.PartLaws.{length-lent}
 use Rattle.plan.proofs.PlanLaws.{planned-first, planned-number, planned-layer}
-use Rattle.scanline.proofs.FitLaws.{first-drawn}
+use Rattle.scanline.proofs.FitLaws.{first-drawn, graphics-drawn}
 use Rattle.scanline.proofs.LineLaws.{line-left, line-done}
 use Rattle.paint.proofs.GroundLaws.{ground-line}
 use Rattle.paint.proofs.RowsLaws.{rows-none, rows-lent, rows-all, rows-room}
@@ -31,24 +31,24 @@ pub record Lines (part : Part) (first count : ℕ) : Type 0 where
   pub long : part .count ≡ count
 
 abbrev Inv-loop2 : tie.InvT-loop2
-Inv-loop2 indexes₀ row₀ w tables pictures floats fresh plan stride ground first count k at y line₀ i₀ indexes row line i =
+Inv-loop2 indexes₀ row₀ w tables extents under pictures floats fresh plan stride ground first count k at y line₀ i₀ indexes row line i =
     ((s : Scene) (l : List ℕ) → Lends tables pictures floats s → OfLine s line₀ → OfLayers s l plan
     → each (lineFrom s y l i) line ≡ each (lineFrom s y l i₀) line₀)
     × (length line ≡ length line₀) × (length indexes ≡ length indexes₀) × (length row ≡ length row₀)
 
 abbrev μ-loop2 : tie.MeasureT-loop2
-μ-loop2 indexes₀ row₀ w tables pictures floats fresh plan stride ground first count k at y line₀ i₀ indexes row line i =
+μ-loop2 indexes₀ row₀ w tables extents under pictures floats fresh plan stride ground first count k at y line₀ i₀ indexes row line i =
     plan .count - i
 
 abbrev Inv-loop : tie.InvT-loop
-Inv-loop out₀ indexes₀ row₀ w tables pictures floats fresh plan stride ground first count k₀ out indexes row k =
+Inv-loop out₀ indexes₀ row₀ w tables extents under pictures floats fresh plan stride ground first count k₀ out indexes row k =
     (k ≤ count)
     × ((s : Scene) (part : Part) → Holds w tables pictures floats s → OfPart s part plan → Lines part first count
     → out ≡ each (rowsByte s part fresh k) out₀)
     × (length out ≡ length out₀) × (length indexes ≡ length indexes₀) × (length row ≡ length row₀)
 
 abbrev μ-loop : tie.MeasureT-loop
-μ-loop out₀ indexes₀ row₀ w tables pictures floats fresh plan stride ground first count k₀ out indexes row k = count - k
+μ-loop out₀ indexes₀ row₀ w tables extents under pictures floats fresh plan stride ground first count k₀ out indexes row k = count - k
 
 screen-width-requires : tie.Need-screen-width-requires Inv-loop2 μ-loop2 Inv-loop μ-loop
 screen-width-requires c κs = search needs
@@ -74,7 +74,7 @@ wide c s same = rw same (c .pre .0 .1)
 
 loop-holds : tie.Need-loop-holds Inv-loop2 μ-loop2 Inv-loop μ-loop
 loop-holds c =
-    let a = c .before .before .before .before .before .before .before .before .before .before in (
+    let a = c .before .before .before .before .before .before .before .before .before .before .before in (
       search needs,
       λ s part same of on. rows-none s part _ (wide a s (same .0)) _,
       refl,
@@ -85,7 +85,7 @@ loop-holds c =
 -- ---- line k lies in the output
 
 abbrev start : tie.In-loop Inv-loop2 μ-loop2 Inv-loop μ-loop → tie.Start Inv-loop2 μ-loop2 Inv-loop μ-loop
-start c = c .before .before .before .before .before .before .before .before .before .before .before .before
+start c = c .before .before .before .before .before .before .before .before .before .before .before .before .before
 
 -- the bytes of a line
 abbrev S : tie.In-loop Inv-loop2 μ-loop2 Inv-loop μ-loop → ℕ
@@ -133,13 +133,24 @@ element-copy-out-lay-first c = search needs
 
 lay-first-requires : tie.Need-lay-first-requires Inv-loop2 μ-loop2 Inv-loop μ-loop
 lay-first-requires c κs =
-    let turn = c .before .before .before .before in
+    let turn = c .before .before .before .before .before in
     let i = turn .before .loop .inv in
     let fit = start turn .pre .1 .0 in
+    let made = start turn .pre .1 .1 in
     let e = long turn in (
-      rw e (omega arith),
-      λ h. fit .fit 0 h .pictured,
-      λ h f. rw e (omega (arith, i .4, start turn .pre .1 .1 (first-drawn fit h f) .long)),
+      (
+        rw e (omega arith),
+        λ h. fit .fit 0 h .pictured,
+        λ h f. rw e (omega (arith, i .4, made (first-drawn fit h f) .scratch .long)),
+      ),
+      λ h g.
+          let all = made (graphics-drawn fit 0 h g) in
+          record {
+            room = rw e (omega (arith, i .3, all .scratch .wide));
+            banked = fit .fit 0 h .banked g;
+            extended = all .lists .extended 0 h g;
+            grounded = rw (turn .before .before .before .before .ground-of .ensures) (all .first);
+          },
     )
 
 loop2-holds : tie.Need-loop2-holds Inv-loop2 μ-loop2 Inv-loop μ-loop
@@ -149,7 +160,7 @@ loop2-holds c = (λ s l same long q. refl, refl, refl, refl)
 
 -- the turn of the line
 abbrev turn : tie.In-loop2 Inv-loop2 μ-loop2 Inv-loop μ-loop → tie.In-loop Inv-loop2 μ-loop2 Inv-loop μ-loop
-turn c = c .before .before .before .before .before .before .before .before .before .before .before
+turn c = c .before .before .before .before .before .before .before .before .before .before .before .before .before .before
 
 few : (c : tie.In-loop2 Inv-loop2 μ-loop2 Inv-loop μ-loop) → c .before .loop2 .i < 8
 few c = omega (arith, c .loop2-test .taken, start (turn c) .pre .1 .0 .few)
@@ -160,22 +171,28 @@ mul-step c = omega (arith, few c)
 element-copy-out-step : tie.Need-element-copy-out-step Inv-loop2 μ-loop2 Inv-loop μ-loop
 element-copy-out-step c = few c
 
+mul-layer-line : tie.Need-mul-layer-line Inv-loop2 μ-loop2 Inv-loop μ-loop
+mul-layer-line c = omega (arith, few (c .before .before .before .before))
+
 layer-line-requires : tie.Need-layer-line-requires Inv-loop2 μ-loop2 Inv-loop μ-loop
 layer-line-requires c κs =
     let layer = c .before .before .before .before in
     let i = layer .before .loop2 .inv in
     let j = turn layer .before .loop .inv in
-    let first = layer .before .before .before .before .before .before .lay-first in
+    let first = layer .before .before .before .before .before .before .before .before .lay-first in
     let a = start (turn layer) in
     let t = layer .loop2-test .taken in
     let e = i .1 ∙ first .kept .0 ∙ long (turn layer) in (
       rw e (a .pre .1 .0 .fit _ t),
-      λ g.
-          let room = a .pre .1 .1 (a .pre .1 .0 .drawn _ t g) in
-          record {
-            wide = omega (arith, e, i .2, j .3, room .wide);
-            long = omega (arith, e, i .3, first .kept .1 .0, j .4, room .long);
-          },
+      (
+        λ g.
+            let room = a .pre .1 .1 (a .pre .1 .0 .drawn _ t g) .scratch in
+            record {
+              wide = omega (arith, e, i .2, first .kept .1 .0, j .3, room .wide);
+              long = omega (arith, e, i .3, first .kept .1 .1 .0, j .4, room .long);
+            },
+        λ g. a .pre .1 .1 (graphics-drawn (a .pre .1 .0) _ t g) .lists .extended _ t g,
+      ),
     )
 
 add-i : tie.Need-add-i Inv-loop2 μ-loop2 Inv-loop μ-loop
@@ -206,9 +223,9 @@ loop-less c = search needs
 
 loop-again : tie.Need-loop-again Inv-loop2 μ-loop2 Inv-loop μ-loop
 loop-again c =
-    let line = c .before .before .before .before .before .before .before .before .before .before .before .before .before in
+    let line = c .before .before .before .before .before .before .before .before .before .before .before .before .before .before .before .before in
     let i = line .before .loop .inv in
-    let first = c .before .before .before .before .before .before .before .before .lay-first in
+    let first = c .before .before .before .before .before .before .before .before .before .before .lay-first in
     let rest = c .before .before .before .loop2 in
     let ground = line .before .before .before .before .ground-of .ensures in (
       search needs,
@@ -219,12 +236,12 @@ loop-again c =
           (rw (← (on .at)) at (ground-line s part _ _ _ _ _ _ _ (of .order) (of .end)
           (record { from = omega (arith, on .at); to = omega (arith, on .at, on .long, line .loop-test .taken) })
           (ground ∙ ap groundsOf (sym (same .0)))
-          (first .ensures .over s _ (same .1 .pours) (length-each _ _ ∙ e) (planned-first s _ _ (of .planned)))
+          (first .ensures .over s _ (same .1) (length-each _ _ ∙ e) (planned-first s _ _ (of .planned)))
           (line-done s _ _ _ _ (omega (arith, of .planned .count, c .before .before .loop2-test .left))
           (rest .inv .0 s _ (same .1) (first .kept .0 ∙ e) (of .planned))))),
       search needs,
-      rest .inv .2 ∙ i .3,
-      rest .inv .3 ∙ first .kept .1 .0 ∙ i .4,
+      rest .inv .2 ∙ first .kept .1 .0 ∙ i .3,
+      rest .inv .3 ∙ first .kept .1 .1 .0 ∙ i .4,
     )
 
 same-length : tie.Need-same-length Inv-loop2 μ-loop2 Inv-loop μ-loop
@@ -238,7 +255,7 @@ same-length-3 c = search needs
 
 returns : tie.Need-returns Inv-loop2 μ-loop2 Inv-loop μ-loop
 returns c =
-    let a = c .before .before .before .before .before .before .before .before .before .before .before .before in
+    let a = c .before .before .before .before .before .before .before .before .before .before .before .before .before in
     record {
       laid = λ s same of.
           rows-all s _ _ (wide a s (same .0)) _ _ _ (omega arith) (rw (same .0) (a .pre .0 .0))
@@ -271,6 +288,7 @@ lay-lines-spec =
     loop2-holds
     mul-step
     element-copy-out-step
+    mul-layer-line
     layer-line-requires
     add-i
     loop2-less

@@ -7,19 +7,14 @@ use Rattle.scanline.proofs.ground.is_whole_line.Tie as tie
 
 returns : tie.Need-returns
 unfolding wholeLine
-returns c = rw (c .if1 .taken)
-
-returns-2 : tie.Need-returns-2
-unfolding wholeLine
-returns-2 c = rw (c .before .before .if1 .left, ne-eqb _ _ (c .if2 .taken))
+returns c = rw (ne-eqb _ _ (c .if1 .taken))
 
 is-on-row-requires : tie.Need-is-on-row-requires
 is-on-row-requires c κs = search needs
 
-returns-3 : tie.Need-returns-3
+returns-2 : tie.Need-returns-2
 unfolding wholeLine
-returns-3 c =
-    rw (c .before .before .before .if1 .left, eq-eqb _ _ (c .before .if2 .left)) (c .is-on-row .ensures)
+returns-2 c = rw (eq-eqb _ _ (c .before .if1 .left)) (c .is-on-row .ensures)
 
 pub is-whole-line-spec : {M : Type 1} → statement M
-is-whole-line-spec = tie.close (tie.spec returns returns-2 is-on-row-requires returns-3)
+is-whole-line-spec = tie.close (tie.spec returns is-on-row-requires returns-2)

@@ -20,7 +20,7 @@ is-laid-first-requires c κs = search needs
 -- ---- the first layer is laid
 
 abbrev start : tie.Then1 → tie.Start
-start c = c .before .before .before .before .before .before
+start c = c .before .before .before .before .before .before .before .before .before
 
 laid : (c : tie.Then1)
     → (start c .args .fresh ≡ true) × (0 < start c .args .count)
@@ -31,27 +31,30 @@ laid c =
 
 lay-layer-requires : tie.Need-lay-layer-requires
 lay-layer-requires c κs =
-    let a = start (c .before .before) in
-    let t = laid (c .before .before) in
+    let a = start (c .before .before .before) .pre in
+    let t = laid (c .before .before .before) in
     let k = whole-line _ _ _ (t .2) in
-    ((k .2, omega (arith, k .1, a .pre .0), k .0, a .pre .1 (t .1)), a .pre .2 (t .1))
+    ((k .1, omega (arith, k .0, a .0 .0), a .0 .1 (t .1)), (a .0 .2 (t .1), a .1 (t .1)))
 
 same-length : tie.Need-same-length
-same-length c = c .before .before .before .before .lay-layer .kept .0
+same-length c = search needs
 
 same-length-2 : tie.Need-same-length-2
-same-length-2 c = c .before .before .before .before .lay-layer .kept .1 .0
+same-length-2 c = search needs
+
+same-length-3 : tie.Need-same-length-3
+same-length-3 c = search needs
 
 returns : tie.Need-returns
 returns c =
-    let t = laid (c .before .before .before .before .before .before .before) in
+    let t = laid (c .before .before .before .before .before .before .before .before .before .before) in
     record {
       over = λ s l same long of.
           let first = of (t .1) in
           rw (t .0)
           (line-next s _ l _ _ _ 0 _ (first .some) (first .number) (line-none s _ l _)
-          (c .before .before .before .before .lay-layer .ensures .over s same (length-each _ _ ∙ sym (length-each _ _) ∙ long)
-          (first .layer)));
+          (c .before .before .before .before .before .before .lay-layer .ensures .over s same
+          (length-each _ _ ∙ sym (length-each _ _) ∙ long) (first .layer)));
     }
 
 -- ---- the ground alone
@@ -59,8 +62,8 @@ returns c =
 lay-ground-requires : tie.Need-lay-ground-requires
 lay-ground-requires c κs = search needs
 
-same-length-3 : tie.Need-same-length-3
-same-length-3 c = search needs
+same-length-4 : tie.Need-same-length-4
+same-length-4 c = search needs
 
 returns-2 : tie.Need-returns-2
 returns-2 c = record { over = λ s l same long of. c .before .before .lay-ground .ensures ∙ line-none s _ l _ }
@@ -73,7 +76,8 @@ lay-first-spec =
     lay-layer-requires
     same-length
     same-length-2
+    same-length-3
     returns
     lay-ground-requires
-    same-length-3
+    same-length-4
     returns-2)

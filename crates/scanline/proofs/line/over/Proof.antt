@@ -2,7 +2,7 @@
 -- Assumes nothing.
 use borrow.Author.Needs.{needs}
 use mathlib.Core.Path.{_∙_}
-use Rattle.scanline.proofs.LineLaws.{over-own}
+use Rattle.span.proofs.OverLaws.{over-own}
 use Rattle.scanline.proofs.line.over.Statement.{statement}
 use Rattle.scanline.proofs.line.over.Tie as tie
 

@@ -1,12 +1,7 @@
--- `scanline::row::draw_row` meets its contract: the three parts lie in the tables, and what they draw goes
--- through the colours. Assumes nothing.
+-- `scanline::row::draw_row` meets its contract: the four parts lie in their buffers, and what they draw are the layer's
+-- colour indexes. Assumes nothing.
 use borrow.Author.Needs.{needs}
-use mathlib.Core.Path.{sym, ap, _∙_}
-use Prim.Native.Nat.{ℕ, _*_}
-use native.Mathlib.Omega.{arith}
-use lib.ListN.{length}
-use Rattle.scanline.proofs.DrawLaws.{banked-tables, banked-count, banked-row}
-use Rattle.lists.proofs.Tab.{length-tab}
+use Rattle.scanline.proofs.DrawLaws.{banked-tables, banked-count, banked-indexes, extended-spans}
 use Rattle.scanline.proofs.row.draw_row.Statement.{statement}
 use Rattle.scanline.proofs.row.draw_row.Tie as tie
 
@@ -14,13 +9,13 @@ cast-bits : tie.Need-cast-bits
 cast-bits c = search needs
 
 font-len-requires : tie.Need-font-len-requires
-font-len-requires c κs = c .before .before .before .before .pre .0 .few
+font-len-requires c κs = search needs
 
 add-font-end : tie.Need-add-font-end
-add-font-end c = omega (arith, c .font-len .ensures, c .before .before .before .before .before .pre .0 .font)
+add-font-end c = search needs
 
 add-draw-line : tie.Need-add-draw-line
-add-draw-line c = omega (arith, c .before .before .before .before .before .before .pre .0 .list)
+add-draw-line c = search needs
 
 sub-draw-line : tie.Need-sub-draw-line
 sub-draw-line c = search needs
@@ -29,10 +24,10 @@ part-draw-line-start : tie.Need-part-draw-line-start
 part-draw-line-start c = search needs
 
 part-draw-line-end : tie.Need-part-draw-line-end
-part-draw-line-end c = omega (arith, c .before .before .before .before .before .before .pre .0 .list)
+part-draw-line-end c = search needs
 
 add-draw-line-2 : tie.Need-add-draw-line-2
-add-draw-line-2 c = omega (arith, c .before .before .before .before .before .before .before .pre .0 .strings)
+add-draw-line-2 c = search needs
 
 sub-draw-line-2 : tie.Need-sub-draw-line-2
 sub-draw-line-2 c = search needs
@@ -41,7 +36,7 @@ part-draw-line-start-2 : tie.Need-part-draw-line-start-2
 part-draw-line-start-2 c = search needs
 
 part-draw-line-end-2 : tie.Need-part-draw-line-end-2
-part-draw-line-end-2 c = omega (arith, c .before .before .before .before .before .before .before .pre .0 .strings)
+part-draw-line-end-2 c = search needs
 
 sub-draw-line-3 : tie.Need-sub-draw-line-3
 sub-draw-line-3 c = search needs
@@ -50,38 +45,36 @@ part-draw-line-start-3 : tie.Need-part-draw-line-start-3
 part-draw-line-start-3 c = search needs
 
 part-draw-line-end-3 : tie.Need-part-draw-line-end-3
-part-draw-line-end-3 c =
-    omega (
-      arith,
-      c .before .before .before .font-len .ensures,
-      c .before .before .before .before .before .before .before .before .pre .0 .font,
-    )
+part-draw-line-end-3 c = search needs
+
+add-draw-line-3 : tie.Need-add-draw-line-3
+add-draw-line-3 c = search needs
+
+mul-draw-line : tie.Need-mul-draw-line
+mul-draw-line c = search needs
+
+sub-draw-line-4 : tie.Need-sub-draw-line-4
+sub-draw-line-4 c = search needs
+
+part-draw-line-start-4 : tie.Need-part-draw-line-start-4
+part-draw-line-start-4 c = search needs
+
+part-draw-line-end-4 : tie.Need-part-draw-line-end-4
+part-draw-line-end-4 c = search needs
 
 draw-line-requires : tie.Need-draw-line-requires
 draw-line-requires c κs =
-    let k = c .before .before .before .before .before .before .before .before .before .pre .0 in
-    rw (c .before .before .before .before .font-len .ensures) (banked-tables _ _ k, banked-count _ _ k)
-
-expand-requires : tie.Need-expand-requires
-expand-requires c κs =
-    let d = c .before .before .before .before .before in
-    d .before .before .before .before .before .before .before .before .before .before .pre .1
-    ∙ ap (λ (n : ℕ). 4 * n) (sym (ap length (d .draw-line .ensures) ∙ length-tab _ _))
+    let a = c .before .before .before .before .before .before .before .before .before .before .pre in
+    rw (c .before .before .before .before .before .font-len .ensures)
+    ((banked-tables _ _ (a .0), banked-count _ _ (a .0)), extended-spans _ _ _ _ (a .1))
 
 same-length : tie.Need-same-length
-same-length c =
-    ap length (c .before .before .before .before .before .before .before .before .draw-line .ensures) ∙ length-tab _ _
-
-same-length-2 : tie.Need-same-length-2
-same-length-2 c = ap length (c .before .before .expand .ensures) ∙ length-tab _ _
+same-length c = search needs
 
 returns : tie.Need-returns
 returns c =
-    let d = c .before .before .before .before .before .before .before .before in
-    banked-row _ _ _ _ _ _ _
-    (rw (d .before .before .before .before .before .font-len .ensures) at (d .draw-line .ensures))
-    (c .before .before .expand .ensures)
-    (d .before .before .before .before .before .before .before .before .before .before .pre .1)
+    let d = c .before .before in
+    banked-indexes _ _ _ _ _ (rw (d .before .before .before .before .before .before .font-len .ensures) at (d .draw-line .ensures))
 
 pub draw-row-spec : {M : Type 1} → statement M
 draw-row-spec =
@@ -101,8 +94,11 @@ draw-row-spec =
     sub-draw-line-3
     part-draw-line-start-3
     part-draw-line-end-3
+    add-draw-line-3
+    mul-draw-line
+    sub-draw-line-4
+    part-draw-line-start-4
+    part-draw-line-end-4
     draw-line-requires
-    expand-requires
     same-length
-    same-length-2
     returns)
