@@ -3,5 +3,6 @@ pub mod FrameLaws
 pub mod GroundLaws
 pub mod ExtentLaws
 pub mod RowsLaws
+mod BegunLaws
 pub mod PartLaws
 pub mod Unique

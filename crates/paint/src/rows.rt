@@ -15,6 +15,7 @@ use plan::Part;
 use plan::Plan;
 use plan::Step;
 use scanline::ground::lay_first;
+use scanline::hiding::lay_hiding;
 use scanline::line::layer_line;
 use tables::INSTRUCTION_COUNT;
 use tables::LIST_LEN;
@@ -43,8 +44,10 @@ fn pixel_room() -> [u8; MOST_BYTES]
 }
 
 // The layers of a plan over the lines of a part, or over the background where the frame is a fresh one: it is laid
-// line by line, so that a line is still at hand when its layers come. `out` has the part's lines. The layers of a line
-// are gone through here too: a plan is copied for a call, which a line would pay for.
+// line by line, so that a line is still at hand when its layers come. A fresh line begins at the topmost layer that
+// hides all under it; an attempt that fails leaves the line to be laid anew. `out` has the part's lines. The layers of
+// a line are gone through here too: a plan is copied for a call, which a line would pay for, and so is a step, whose
+// width is therefore looked at first.
 fn lay_lines(
     out: &mut [u8],
     indexes: &mut [u8],
@@ -66,7 +69,8 @@ fn lay_lines(
     ensures { λ _. ⌜ RowsLaid (Holds (now (w .entry)) (now (tables .entry)) (now (pictures .entry)) (now (floats .entry)))
         plan part fresh (now (out .entry)) (now (out .exit)) ⌝ }
 {
-    let stride = PIXEL_LEN * (screen_width(w) as usize);
+    let width = screen_width(w) as usize;
+    let stride = PIXEL_LEN * width;
     let ground = ground_of(w);
     let first = part.first as usize;
     let count = part.count as usize;
@@ -75,21 +79,32 @@ fn lay_lines(
         let at = k * stride;
         let y = first + k;
         let line = &mut out[at..at + stride];
-        let mut i = lay_first(
-            line,
-            indexes,
-            row,
-            tables,
-            extents,
-            under,
-            pictures,
-            floats,
-            fresh,
-            ground,
-            plan.steps[0],
-            plan.count,
-            y,
-        );
+        let mut top = plan.count;
+        let mut laid = false;
+        while fresh && !laid && 1 < top {
+            top -= 1;
+            if plan.steps[top].wide == width {
+                laid = lay_hiding(line, pictures, ground, plan.steps[top], y);
+            }
+        }
+        let mut i = top + 1;
+        if !laid {
+            i = lay_first(
+                line,
+                indexes,
+                row,
+                tables,
+                extents,
+                under,
+                pictures,
+                floats,
+                fresh,
+                ground,
+                plan.steps[0],
+                plan.count,
+                y,
+            );
+        }
         while i < plan.count {
             let step = plan.steps[i];
             layer_line(

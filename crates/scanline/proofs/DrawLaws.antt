@@ -118,8 +118,3 @@ pub extended-spans : (tables extents : List ℕ) (t : Step) (at : ℕ) → Exten
     → Spanned (take (t .list + listLen - t .list) (drop (t .list) tables)) (t .end .count)
     (take (at + instructions - at) (drop at extents))
 extended-spans tables extents t at k = rw (part-is tables (t .list) listLen, part-is extents at instructions) (k .spanned)
-
--- as many colour indexes as there is room for
-pub length-indexes : (tables : List ℕ) (t : Step) (v pixels : ℕ) → length (drawnIndexes tables t v pixels) ≡ pixels
-unfolding drawnIndexes
-length-indexes tables t v pixels = length-tab _ _

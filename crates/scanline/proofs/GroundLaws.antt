@@ -1,5 +1,5 @@
 -- The ground of a line, and the first layer with it. Assumes nothing.
-use mathlib.Core.Path.{_≡_, refl, ap}
+use mathlib.Core.Path.{_≡_, refl, sym, ap, _∙_}
 use mathlib.Core.Bool.{Bool, true, false}
 use mathlib.Core.List.{List, [], _∷_}
 use Prim.Native.Nat.{ℕ, zero, suc, _<_}
@@ -29,6 +29,12 @@ pub ground-filled : (g : Ground) (out : List ℕ)
     → tab (length out) (rows.solidByte (g .c0) (g .c1) (g .c2)) ≡ each (groundByte g true) out
 unfolding groundByte
 ground-filled g out = tab-each _ out
+
+-- of a fresh frame, what the line held does not count
+pub ground-anew : (g : Ground) (out out′ : List ℕ) → length out′ ≡ length out
+    → each (groundByte g true) out′ ≡ each (groundByte g true) out
+ground-anew g out out′ e =
+    sym (ground-filled g out′) ∙ ap (λ (n : ℕ). tab n (rows.solidByte (g .c0) (g .c1) (g .c2))) e ∙ ground-filled g out
 
 -- ---- the first layer with it
 

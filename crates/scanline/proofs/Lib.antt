@@ -3,3 +3,4 @@ pub mod DrawLaws
 pub mod FitLaws
 pub mod LineLaws
 pub mod GroundLaws
+pub mod HidingLaws

@@ -2,7 +2,7 @@
 // by an instruction list as colour indexes or turned from floats to bytes.
 ghost use mathlib.Core.Path.{_≡_};
 ghost use mathlib.Core.Bool.{true, false};
-ghost use Prim.Native.Nat.{_+_, _*_, _<_, _≤_};
+ghost use Prim.Native.Nat.{_+_, _*_, _<_};
 ghost use lib.ListN.{length};
 ghost use Rattle.mix.specs.Pixel.{pixelLen};
 ghost use Rattle.frames.specs.Pixel.{spans};

@@ -3,5 +3,6 @@
 pub mod OverLaws
 mod OverParts
 mod GroundLaws
+mod HideLaws
 pub mod TintLaws
 pub mod Unique

@@ -27,7 +27,7 @@ use sixteen::pixels::repeated;
 use sixteen::sizes::BLOCK_LEN;
 
 // Whether a block begins at i in which all pixels are opaque.
-fn is_opaque_at(over: &[u8], i: usize) -> bool
+pub fn is_opaque_at(over: &[u8], i: usize) -> bool
     requires { ⌜ i ≤ length (now over) ⌝ }
     ensures { λ r. ⌜ (r ≡ true → OpaqueAt (now (over .entry)) i) ⌝ }
 {

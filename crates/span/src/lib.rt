@@ -9,10 +9,12 @@ ghost use Rattle.lists.specs.Tab.{tab, each};
 ghost use Rattle.mix.specs.Pixel.{pixelLen};
 ghost use Rattle.colours.specs.Rows.{colourRow, solidByte};
 ghost use Rattle.span.specs.Span.{overByte};
+ghost use Rattle.span.specs.Engine.Laid.{Opaque};
 ghost use Rattle.span.specs.Engine.Tints.{Grounded};
 
 mod blocks;
 mod grounds;
+mod hides;
 mod palettes;
 mod runs;
 mod tints;
@@ -76,6 +78,25 @@ pub fn lay_flat(out: &mut [u8], over: &[u8], alpha: u8, c0: u8, c1: u8, c2: u8)
     let i = grounds::lay_flat_blocks(out, over, alpha, c0, c1, c2);
     fill_rest(out, i, c0, c1, c2);
     runs::flat_rest(out, over, i, alpha);
+}
+
+// Whether the run is opaque all along. It is then laid over a row of one opaque colour; where it is not, `out` holds
+// anything. The last pixel is looked at first, which saves the pass where a run is opaque but for its end.
+pub fn lay_if_opaque(out: &mut [u8], over: &[u8], c0: u8, c1: u8, c2: u8) -> bool
+    requires { ⌜ (length (now out) ≡ length (now over)) × (length (now out) % pixelLen ≡ 0) ⌝ }
+    ensures { λ r. ⌜ (r ≡ true → Opaque (now (over .entry)) × (now (out .exit)
+        ≡ each (overByte (now (over .entry)) false 0) (tab (length (now (out .entry))) (solidByte c0 c1 c2)))) ⌝ }
+{
+    if !hides::is_opaque_at_ends(over) {
+        return false;
+    }
+    let i = hides::lay_front(out, over, c0, c1, c2);
+    if !hides::is_opaque_from(over, i) {
+        return false;
+    }
+    fill_rest(out, i, c0, c1, c2);
+    runs::own_rest(out, over, i);
+    true
 }
 
 // Either: all pixels at one alpha, or each at its own.

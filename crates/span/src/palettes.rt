@@ -1,6 +1,5 @@
 // Palettes that are worked out once for many lines: one whose colours have the alphas that they are laid at, and one of
 // colours that lie over a row of one colour already.
-ghost use mathlib.Core.Bool.{true};
 ghost use Rattle.sixteen.specs.Engine.Lanes.{Lanes};
 ghost use Rattle.colours.specs.Rows.{PaletteOf};
 ghost use Rattle.span.specs.Engine.Tints.{AlphaIs, Shown};

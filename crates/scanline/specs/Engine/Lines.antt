@@ -11,7 +11,7 @@ use lib.Ieee.{Float}
 use Rattle.lists.specs.Choice.{pick, both}
 use Rattle.lists.specs.Steps.{through}
 use Rattle.lists.specs.Tab.{tab, each}
-use Rattle.mix.specs.Pixel.{pixelLen, alphaPlace}
+use Rattle.mix.specs.Pixel.{pixelLen, alphaPlace, opaque}
 use Rattle.profiles.specs.Profile.{bitsOf}
 use Rattle.words.specs.declared.fields.Ground.{Ground}
 use Rattle.words.specs.Fields.{widthOf}
@@ -19,6 +19,7 @@ use Rattle.words.specs.Pictures.{picturesLen}
 use Rattle.tables.specs.Geometry.{tablesLen, instructions, listLen, stringsLen, fontLen}
 use Rattle.draw.specs.Drawing.{countOf, indexAt}
 use Rattle.colours.specs.Rows as rows
+use Rattle.span.specs.Span.{overByte}
 use Rattle.span.specs.Engine.Tints.{Grounded}
 use Rattle.pen.specs.Engine.Spans.{Spanned}
 use Rattle.frames.specs.Scene.{Scene}
@@ -180,3 +181,16 @@ pub record Over (Of : Scene → Type 0) (t : Step) (y : ℕ) (line line′ : Lis
 pub record OverTo (Of : Scene → Type 0) (t : Step) (count k y : ℕ) (line line′ : List ℕ) : Type 0 where
   pub over : (s : Scene) (l : List ℕ) → Of s → OfLine s line → (0 < count → OfFirst s l t)
       → line′ ≡ each (lineTo s y l k) line
+
+-- ---- a layer that hides all under it
+
+-- a run lies over a line, opaque all along it: at one alpha, or each pixel at its own
+pub record OpaqueOver (run : List ℕ) (global : Bool) (alpha : ℕ) (line line′ : List ℕ) : Type 0 where
+  pub opaque : (u : ℕ) → u < length run / pixelLen
+      → pick global alpha (getD run (pixelLen * u + alphaPlace) 0) ≡ opaque
+  pub over : line′ ≡ each (overByte run global alpha) line
+
+-- line y afterwards has the step's layer over it, and so all layers under that one too, whichever they are
+pub record Hides (Of : Scene → Type 0) (t : Step) (y : ℕ) (line line′ : List ℕ) : Type 0 where
+  pub over : (s : Scene) (l : List ℕ) (k : ℕ) → Of s → OfLine s line → OfLayer s t → k < length l → t .number ≡ getD l k 0
+      → line′ ≡ each (lineTo s y l (k + 1)) line

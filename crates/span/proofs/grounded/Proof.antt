@@ -1,8 +1,5 @@
 -- `span::grounded` meets its contract: the palette's bytes are laid as any run. Assumes nothing.
 use borrow.Author.Needs.{needs}
-use mathlib.Core.Path.{ap, _∙_}
-use lib.ListN.{length}
-use Rattle.lists.proofs.Tab.{length-each, length-tab}
 use Rattle.span.proofs.TintLaws.{grounded-is}
 use Rattle.span.proofs.grounded.Statement.{statement}
 use Rattle.span.proofs.grounded.Tie as tie

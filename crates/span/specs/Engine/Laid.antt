@@ -1,9 +1,10 @@
 -- What private functions promise of a row under a run, of stretches of blocks and of a block that is copied. Assumes
 -- nothing.
-use Prim.Native.Nat.{ℕ, _+_, _≤_, _<_}
+use Prim.Native.Nat.{ℕ, _+_, _/_, _≤_, _<_}
 use mathlib.Core.Bool.{Bool, true}
 use mathlib.Core.List.{List}
 use lib.ListN.{length}
+use Rattle.mix.specs.Pixel.{pixelLen}
 use Rattle.sixteen.specs.Engine.Lanes.{blockLen, Part, Reach, AllAlpha, Lanes, PixelIs}
 use Rattle.span.specs.Span.{overByte}
 
@@ -24,3 +25,7 @@ pub record Onward (l l₀ : List ℕ) (g : ℕ → ℕ → ℕ) (a b : ℕ) : Ty
 pub record OpaqueAt (s : List ℕ) (at : ℕ) : Type 0 where
   pub fits : at + blockLen ≤ length s
   pub opaque : AllAlpha s at 16 255
+
+-- each pixel of a run is opaque
+abbrev pub Opaque : List ℕ → Type 0
+Opaque s = AllAlpha s 0 (length s / pixelLen) 255

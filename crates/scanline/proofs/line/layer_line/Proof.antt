@@ -2,7 +2,7 @@
 -- of layer has its own worker. Assumes nothing.
 use borrow.Author.Needs.{needs}
 use borrow.Author.Tests.{not-true, not-false}
-use mathlib.Core.Path.{_≡_, sym, _∙_}
+use mathlib.Core.Path.{sym, _∙_}
 use Rattle.scanline.specs.Engine.Lines.{OnRow}
 use Rattle.plan.proofs.PlanLaws.{made-graphics, made-floats}
 use Rattle.scanline.proofs.FitLaws.{on-row, row-fits}

@@ -1,6 +1,5 @@
 -- `span::runs::is_mixed_at` meets its contract: the pixel is looked at where a block begins. Assumes nothing.
 use borrow.Author.Needs.{needs}
-use native.Mathlib.Omega.{arith}
 use Rattle.span.proofs.runs.is_mixed_at.Statement.{statement}
 use Rattle.span.proofs.runs.is_mixed_at.Tie as tie
 

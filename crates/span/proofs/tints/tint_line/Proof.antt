@@ -3,7 +3,6 @@
 use borrow.Author.Needs.{needs}
 use mathlib.Core.Bool.{false}
 use Prim.Native.Nat.{_-_, _*_}
-use native.Mathlib.Omega.{arith}
 use lib.ListN.{length}
 use Rattle.sixteen.specs.Engine.Lanes.{Front}
 use Rattle.colours.specs.Rows.{colourRow}

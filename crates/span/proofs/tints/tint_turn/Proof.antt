@@ -1,9 +1,6 @@
 -- `span::tints::tint_turn` meets its contract: a stretch of one index is one of its colour. Assumes nothing.
 use borrow.Author.Needs.{needs}
 use native.Mathlib.Omega.{arith}
-use mathlib.Core.Path.{_≡_, ap, _∙_}
-use Prim.Native.Nat.{ℕ}
-use lib.ListN.{getD}
 use Rattle.span.proofs.TintLaws.{indexes-on, same-tint}
 use Rattle.span.proofs.tints.tint_turn.Statement.{statement}
 use Rattle.span.proofs.tints.tint_turn.Tie as tie
