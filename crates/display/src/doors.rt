@@ -117,8 +117,7 @@ fn given(told: Told, state: &mut [u8]) -> u32
 
 // ---- the doors: a state of another length is refused with 23, and all is as it was
 
-#[unsafe(no_mangle)]
-pub extern "C" fn spoonwing_display_new(state: &mut [u8], bits: u32) -> u32
+pub fn spoonwing_display_new(state: &mut [u8], bits: u32) -> u32
     ensures answer { result ≡ door_answer state.old (λ _. new_of bits true) }
     ensures state { state.new ≡ door_state state.old (λ _. new_of bits true) }
 {
@@ -128,8 +127,7 @@ pub extern "C" fn spoonwing_display_new(state: &mut [u8], bits: u32) -> u32
     given(Display::new(bits, true), state)
 }
 
-#[unsafe(no_mangle)]
-pub extern "C" fn spoonwing_display_write(state: &mut [u8], register: u32, value: u32) -> u32
+pub fn spoonwing_display_write(state: &mut [u8], register: u32, value: u32) -> u32
     ensures answer { result ≡ door_answer state.old (λ d. write_of d register value) }
     ensures state { state.new ≡ door_state state.old (λ d. write_of d register value) }
 {
@@ -139,8 +137,7 @@ pub extern "C" fn spoonwing_display_write(state: &mut [u8], register: u32, value
     given(bare(state).write(register, value), state)
 }
 
-#[unsafe(no_mangle)]
-pub extern "C" fn spoonwing_display_select(state: &mut [u8], selection: u32) -> u32
+pub fn spoonwing_display_select(state: &mut [u8], selection: u32) -> u32
     ensures answer { result ≡ door_answer state.old (λ d. select_of d selection) }
     ensures state { state.new ≡ door_state state.old (λ d. select_of d selection) }
 {
@@ -150,8 +147,7 @@ pub extern "C" fn spoonwing_display_select(state: &mut [u8], selection: u32) -> 
     given(bare(state).select(selection), state)
 }
 
-#[unsafe(no_mangle)]
-pub extern "C" fn spoonwing_display_toggle(state: &mut [u8], bits: u32) -> u32
+pub fn spoonwing_display_toggle(state: &mut [u8], bits: u32) -> u32
     ensures answer { result ≡ door_answer state.old (λ d. toggle_of d bits) }
     ensures state { state.new ≡ door_state state.old (λ d. toggle_of d bits) }
 {
@@ -161,8 +157,7 @@ pub extern "C" fn spoonwing_display_toggle(state: &mut [u8], bits: u32) -> u32
     given(bare(state).toggle(bits), state)
 }
 
-#[unsafe(no_mangle)]
-pub extern "C" fn spoonwing_display_start(state: &mut [u8]) -> u32
+pub fn spoonwing_display_start(state: &mut [u8]) -> u32
     ensures answer { result ≡ door_answer state.old (λ d. start_of d) }
     ensures state { state.new ≡ door_state state.old (λ d. start_of d) }
 {
@@ -172,8 +167,7 @@ pub extern "C" fn spoonwing_display_start(state: &mut [u8]) -> u32
     given(begun(bare(state)), state)
 }
 
-#[unsafe(no_mangle)]
-pub extern "C" fn spoonwing_display_put(state: &mut [u8], tables: &mut [u8], byte: u8) -> u32
+pub fn spoonwing_display_put(state: &mut [u8], tables: &mut [u8], byte: u8) -> u32
     ensures answer { result ≡ door_answer state.old (λ d. put_of d tables.old) }
     ensures state { state.new ≡ door_state state.old (λ d. put_of d tables.old) }
     ensures tables { tables.new
@@ -185,8 +179,7 @@ pub extern "C" fn spoonwing_display_put(state: &mut [u8], tables: &mut [u8], byt
     given(bare(state).put(tables, byte), state)
 }
 
-#[unsafe(no_mangle)]
-pub extern "C" fn spoonwing_display_put_run(
+pub fn spoonwing_display_put_run(
     state: &mut [u8],
     tables: &mut [u8],
     run: &[u8],
@@ -211,8 +204,7 @@ pub extern "C" fn spoonwing_display_put_run(
     given(told_by(ran), state)
 }
 
-#[unsafe(no_mangle)]
-pub extern "C" fn spoonwing_display_write_run(state: &mut [u8], run: &[u8], done: &mut usize) -> u32
+pub fn spoonwing_display_write_run(state: &mut [u8], run: &[u8], done: &mut usize) -> u32
     ensures answer { result ≡ door_answer state.old (λ d. told_by (write_run_of d run.now)) }
     ensures state { state.new
         ≡ door_state state.old (λ d. told_by (write_run_of d run.now)) }
@@ -228,8 +220,7 @@ pub extern "C" fn spoonwing_display_write_run(state: &mut [u8], run: &[u8], done
     given(told_by(ran), state)
 }
 
-#[unsafe(no_mangle)]
-pub extern "C" fn spoonwing_display_fill(state: &mut [u8], out: &mut [u8]) -> u32
+pub fn spoonwing_display_fill(state: &mut [u8], out: &mut [u8]) -> u32
     ensures answer { result ≡ door_answer state.old (λ d. fill_told d out.old) }
     ensures state { state.new ≡ door_state state.old (λ d. fill_told d out.old) }
     ensures output { out.new
@@ -241,8 +232,7 @@ pub extern "C" fn spoonwing_display_fill(state: &mut [u8], out: &mut [u8]) -> u3
     given(bare(state).fill(out), state)
 }
 
-#[unsafe(no_mangle)]
-pub extern "C" fn spoonwing_display_paint(
+pub fn spoonwing_display_paint(
     state: &mut [u8],
     low: u32,
     high: u32,
@@ -268,8 +258,7 @@ pub extern "C" fn spoonwing_display_paint(
     )
 }
 
-#[unsafe(no_mangle)]
-pub extern "C" fn spoonwing_display_frame(
+pub fn spoonwing_display_frame(
     state: &mut [u8],
     tables: &[u8],
     pictures: &[u8],
@@ -290,8 +279,7 @@ pub extern "C" fn spoonwing_display_frame(
     given(taken(state).frame(tables, pictures, floats, out), state)
 }
 
-#[unsafe(no_mangle)]
-pub extern "C" fn spoonwing_display_line(
+pub fn spoonwing_display_line(
     state: &mut [u8],
     y: u32,
     tables: &[u8],
@@ -315,8 +303,7 @@ pub extern "C" fn spoonwing_display_line(
 
 // ---- reads: 0 of a state of another length
 
-#[unsafe(no_mangle)]
-pub extern "C" fn spoonwing_display_error_word(state: &[u8]) -> u32
+pub fn spoonwing_display_error_word(state: &[u8]) -> u32
     ensures { result ≡ door_read state.now (λ d. d.errors) }
 {
     if state.len() != STATE_LEN {
@@ -325,8 +312,7 @@ pub extern "C" fn spoonwing_display_error_word(state: &[u8]) -> u32
     bare(state).error_word()
 }
 
-#[unsafe(no_mangle)]
-pub extern "C" fn spoonwing_display_frame_number(state: &[u8]) -> u32
+pub fn spoonwing_display_frame_number(state: &[u8]) -> u32
     ensures { result ≡ door_read state.now (λ d. d.frame) }
 {
     if state.len() != STATE_LEN {
@@ -335,8 +321,7 @@ pub extern "C" fn spoonwing_display_frame_number(state: &[u8]) -> u32
     bare(state).frame_number()
 }
 
-#[unsafe(no_mangle)]
-pub extern "C" fn spoonwing_display_output_width(state: &[u8]) -> u32
+pub fn spoonwing_display_output_width(state: &[u8]) -> u32
     ensures { result ≡ door_read state.now (λ d. width_of d.active) }
 {
     if state.len() != STATE_LEN {
@@ -345,8 +330,7 @@ pub extern "C" fn spoonwing_display_output_width(state: &[u8]) -> u32
     bare(state).output_width() as u32
 }
 
-#[unsafe(no_mangle)]
-pub extern "C" fn spoonwing_display_output_height(state: &[u8]) -> u32
+pub fn spoonwing_display_output_height(state: &[u8]) -> u32
     ensures { result ≡ door_read state.now (λ d. height_of d.active) }
 {
     if state.len() != STATE_LEN {

@@ -23,8 +23,7 @@ fn profile_for(long: usize) -> Profile
 // Paints a whole frame of the image's words at a frame number. Answers 0, or the first of 16, 7, 8, 9
 // and 10 of each layer, 11, 13, 6, 14; a refusal leaves `output`. Error bits are dropped. A glyph's pixel has
 // one bit or two, as the tables are long. No floats are lent, so that a float layer answers 7.
-#[unsafe(no_mangle)]
-pub extern "C" fn spoonwing_frame(
+pub fn spoonwing_frame(
     image: &[u8],
     frame: u32,
     tables: &[u8],

@@ -8,7 +8,7 @@ use native.Mathlib.Omega.{arith}
 use borrow.Author.Tests.{eq-eqb, ne_eqb}
 use lib.ListN.{length, get_or, length-replicate, get_or-replicate}
 use lib.Seq.{take_at, take_all}
-use Rattle.bytes.specs.Bytes.{index_of}
+use Rattle.octets.specs.Bytes.{index_of}
 use Rattle.lists.proofs.Call.{pair_is, tied-meets}
 use Rattle.lists.specs.Over.{over}
 use Rattle.lists.specs.Runs.{first_of, sum_of, run}
@@ -34,7 +34,7 @@ use Rattle.display.proofs.Unique.{paint-tie, frame-tie, line-tie}
 use Rattle.words.specs.Image.{words_from}
 use Rattle.host.specs.Host as host
 use Rattle.host.proofs.Unique.{host-tie}
-use Rattle.hex.specs.Hex.{value_of, is_hex, bytes_in, digit_of, digits_of}
+use Rattle.hexadecimal.specs.Hex.{value_of, is_hex, bytes_in, digit_of, digits_of}
 use Rattle.texts.specs.Lines.{ends_in, line_in}
 use Rattle.texts.specs.Replies.{reply_text}
 use Rattle.steps.specs.Form.{count_at, word_at, past_loads, writes_place, picture_place, end_place, is_formed}

@@ -21,7 +21,7 @@ use Rattle.display.specs.declared.Told.{Told}
 use Rattle.display.specs.State.{told, with_errors, start_of}
 use Rattle.display.specs.Doors.{with_layout}
 use Rattle.display.specs.Paint.{scene_with}
-use Rattle.hex.specs.Hex.{bytes_in}
+use Rattle.hexadecimal.specs.Hex.{bytes_in}
 use Rattle.texts.specs.Replies.{reply_text}
 use Rattle.steps.specs.Form.{picture_place}
 use Rattle.steps.specs.Steps.{Midway, midway, run_of, steps_of}

@@ -14,7 +14,7 @@ use Rattle.display.specs.Paint.{scene_with, paint_bytes, frame_bytes, line_bytes
 use Rattle.display.proofs.Unique.{paint_call, frame_call, line_call}
 use Rattle.host.specs.Host.{scene_in, host_output}
 use Rattle.host.proofs.Unique.{host_call}
-use Rattle.hex.specs.Hex.{digits_of}
+use Rattle.hexadecimal.specs.Hex.{digits_of}
 use Rattle.texts.specs.Lines.{line_feed}
 use Rattle.texts.specs.Replies.{two_bytes, four_bytes, reply_text}
 use Rattle.line.specs.declared.Printed.{Printed}

@@ -12,7 +12,7 @@ use Rattle.display.specs.declared.Told.{Told}
 use Rattle.display.specs.State.{told}
 use Rattle.display.specs.Reached.{Arranged}
 use Rattle.display.proofs.Arranged.{start-arranged, frame-arranged}
-use Rattle.hex.specs.Hex.{is_hex, bytes_in}
+use Rattle.hexadecimal.specs.Hex.{is_hex, bytes_in}
 use Rattle.steps.specs.Form.{is_formed}
 use Rattle.steps.specs.Steps.{Midway, midway, run_of, steps_of}
 use Rattle.steps.proofs.Arranged.{run-arranged}

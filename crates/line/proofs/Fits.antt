@@ -14,7 +14,7 @@ use Rattle.words.specs.Fields.{width_of, height_of}
 use Rattle.display.specs.declared.Display.{Display}
 use Rattle.display.specs.declared.Told.{Told}
 use Rattle.display.proofs.Calls.{length-frame_bytes}
-use Rattle.hex.specs.Hex.{is_hex, bytes_in}
+use Rattle.hexadecimal.specs.Hex.{is_hex, bytes_in}
 use Rattle.texts.proofs.PrintLaws.{length-reply_text}
 use Rattle.steps.specs.Form.{is_formed}
 use Rattle.line.specs.Sizes.{most_digits, most_lent, most_reply, most_printed}

@@ -16,7 +16,7 @@ use Rattle.display.specs.declared.Display.{Display}
 use Rattle.display.specs.declared.Told.{Told}
 use Rattle.display.specs.State.{told, start_of}
 use Rattle.display.specs.Paint.{frame_told, frame_bytes}
-use Rattle.hex.specs.Hex.{is_hex, bytes_in}
+use Rattle.hexadecimal.specs.Hex.{is_hex, bytes_in}
 use Rattle.texts.specs.Replies.{bad_form, reply_text}
 use Rattle.texts.proofs.PrintLaws.{length-reply_text}
 use Rattle.steps.specs.declared.form.Parts.{Parts}

@@ -8,7 +8,7 @@ use Rattle.display.specs.declared.Display.{Display}
 use Rattle.display.specs.declared.Told.{Told}
 use Rattle.display.specs.State.{told, start_of}
 use Rattle.display.specs.Paint.{frame_told, frame_bytes}
-use Rattle.hex.specs.Hex.{is_hex, bytes_in}
+use Rattle.hexadecimal.specs.Hex.{is_hex, bytes_in}
 use Rattle.texts.specs.Replies.{two_bytes, four_bytes, bad_form, reply_text}
 use Rattle.steps.specs.Form.{picture_place, is_formed}
 use Rattle.steps.specs.Steps.{Midway, midway, run_of, steps_of}

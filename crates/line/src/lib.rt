@@ -108,7 +108,7 @@ fn head(state: Display, reply: &mut [u8])
         (h / 256 % 256) as u8,
         (h % 256) as u8,
     ];
-    bytes::copy(&front, reply);
+    octets::copy(&front, reply);
 }
 
 // The frame, where nothing was refused, and the reply.
@@ -166,7 +166,7 @@ fn answer(state: Display, tables: &mut [u8], text: &[u8], reply: &mut [u8]) -> R
         return refuse(state, BAD_FORM, reply);
     }
     let mut b = no_bytes();
-    let good = hex::read_bytes(text, &mut b);
+    let good = hexadecimal::read_bytes(text, &mut b);
     if !good {
         return refuse(state, BAD_FORM, reply);
     }

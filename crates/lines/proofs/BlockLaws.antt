@@ -8,7 +8,7 @@ use lib.ListN.{length, take, drop, length-drop}
 use lib.Seq.{length-take-le, drop_at, drop-drop}
 use lib.Dec.{ltb, leb}
 use borrow.Author.Tests.{lt-ltb, le-ltb, le-leb, eq-eqb, ne_eqb, ltb-true, leb-true}
-use Rattle.bytes.specs.Bytes.{index_of}
+use Rattle.octets.specs.Bytes.{index_of}
 use Rattle.lists.specs.Over.{over}
 use Rattle.lists.proofs.Choice.{both_left, both_right}
 use Rattle.lists.proofs.Over.{over_none, take-over}

@@ -3,7 +3,7 @@ use Prim.Native.Nat.{ℕ}
 use mathlib.Core.Path.{◌≡◌, refl}
 use mathlib.Core.List.{List, [], ◌∷◌}
 use Rattle.display.specs.declared.Display.{Display}
-use Rattle.hex.specs.Hex.{value_of, is_hex, bytes_in, digit_of, digits_of}
+use Rattle.hexadecimal.specs.Hex.{value_of, is_hex, bytes_in, digit_of, digits_of}
 use Rattle.texts.specs.Replies.{reply_text}
 use Rattle.steps.specs.Form.{count_at, past_loads, writes_place, picture_place, end_place, is_formed}
 use Rattle.line.specs.Line.{done_of, outcome_of, Ran, line_of}

@@ -81,7 +81,7 @@ fn store(bits: usize, tables: &mut [u8], place: u32, number: u32, part: &[u8])
     }
     let at = first_byte_of(bits, number) + (place as usize);
     let end = at + part.len();
-    bytes::copy(part, &mut tables[at..end]);
+    octets::copy(part, &mut tables[at..end]);
 }
 
 // A run of which nothing was done.

@@ -10,7 +10,7 @@ use lib.ListN.{length, take, drop, length-take, length-drop, drop_of_length-le}
 use lib.Seq.{length-take-le, take_all, drop-drop}
 use lib.Dec.{eqb}
 use borrow.Author.Tests.{eq-eqb, ne_eqb}
-use Rattle.bytes.specs.Bytes.{index_of}
+use Rattle.octets.specs.Bytes.{index_of}
 use Rattle.lists.specs.Choice.{choose}
 use Rattle.lists.specs.Over.{over}
 use Rattle.lists.proofs.Choice.{split}

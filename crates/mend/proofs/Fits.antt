@@ -9,7 +9,7 @@ use lib.ListN.{length, length-append}
 use Rattle.lists.specs.Choice.{both}
 use Rattle.lists.proofs.Choice.{choose-keeps, both_left}
 use Rattle.answers.specs.Answers.{done}
-use Rattle.hex.specs.Hex.{is_hex, bytes_in}
+use Rattle.hexadecimal.specs.Hex.{is_hex, bytes_in}
 use Rattle.texts.proofs.PrintLaws.{length-reply_text}
 use Rattle.repair.specs.Image.{mend_answer, mend_list, mend_count}
 use Rattle.repair.proofs.ImageLaws.{mend_image-long, mend_count-le}

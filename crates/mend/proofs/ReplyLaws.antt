@@ -18,7 +18,7 @@ use Rattle.answers.specs.Answers.{done, empty_screen, image_length}
 use Rattle.words.specs.Fields.{width_of, height_of}
 use Rattle.words.specs.Check.{screen_of}
 use Rattle.words.specs.Image.{words_of, image_refusal}
-use Rattle.hex.specs.Hex.{is_hex, bytes_in}
+use Rattle.hexadecimal.specs.Hex.{is_hex, bytes_in}
 use Rattle.texts.specs.Replies.{bad_form, reply_text}
 use Rattle.texts.proofs.PrintLaws.{length-reply_text}
 use Rattle.repair.specs.Image.{mend_answer, mend_image, mend_list, mend_count}

@@ -6,7 +6,7 @@ use Rattle.lists.specs.Little.{little_at}
 use Rattle.lists.specs.Tab.{tab}
 use Rattle.words.specs.Check.{screen_of}
 use Rattle.words.specs.Image.{words_from}
-use Rattle.hex.specs.Hex.{value_of, is_hex, bytes_in, digit_of, digits_of}
+use Rattle.hexadecimal.specs.Hex.{value_of, is_hex, bytes_in, digit_of, digits_of}
 use Rattle.texts.specs.Replies.{reply_text}
 use Rattle.repair.specs.Image.{mend_answer}
 use Rattle.mend.specs.Line.{mend_reply, line_reply, mend_line}

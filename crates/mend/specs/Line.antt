@@ -4,7 +4,7 @@
 use Rattle.std.specs.Prelude.{ℕ, zero, suc, ◌+◌, ◌*◌, ◌%◌, List, [], ◌∷◌, ◌++◌, length, get_or, eqb}
 use Rattle.lists.specs.Choice.{choose, both}
 use Rattle.answers.specs.Answers.{done}
-use Rattle.hex.specs.Hex.{is_hex, bytes_in}
+use Rattle.hexadecimal.specs.Hex.{is_hex, bytes_in}
 use Rattle.texts.specs.Lines.{lines_from}
 use Rattle.texts.specs.Replies.{four_bytes, bad_form, reply_text}
 use Rattle.repair.specs.Image.{mend_answer, mend_image, mend_list, mend_count}

@@ -36,7 +36,7 @@ fn put(part: &[u8], n: usize, reply: &mut [u8]) -> usize
     ensures { (result ≡ n + length part.now)
         × (take result reply.new ≡ take n reply.old ++ part.now) }
 {
-    bytes::copy(part, &mut reply[n..]);
+    octets::copy(part, &mut reply[n..]);
     n + part.len()
 }
 
@@ -102,7 +102,7 @@ fn answer(text: &[u8], reply: &mut [u8]) -> usize
         return put(&[BAD_FORM], 0, reply);
     }
     let mut image = no_image();
-    let good = hex::read_bytes(text, &mut image);
+    let good = hexadecimal::read_bytes(text, &mut image);
     if !good {
         return put(&[BAD_FORM], 0, reply);
     }

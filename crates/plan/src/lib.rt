@@ -23,7 +23,7 @@ use tables::{COLOURS, COLOURS_LEN, FONT, LIST, LIST_LEN, STRINGS, active_at};
 use words::fields::{Layer, layer_of, screen_width};
 
 // One layer of a painting.
-#[derive(Drop)]
+#[derive(Clone, Copy)]
 pub struct Step {
     pub number: usize,
     pub layer: Layer,
@@ -45,7 +45,7 @@ pub struct Step {
 
 // What of a frame is painted: the layers of depths from `low` up to but not `high`, on `count` lines from
 // line `first` on.
-#[derive(Drop)]
+#[derive(Clone, Copy)]
 pub struct Part {
     pub low: u32,
     pub high: u32,

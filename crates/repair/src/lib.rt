@@ -40,8 +40,7 @@ fn mend(w: &[u32; 52]) -> [u32; 52]
 // Mends the image in place. Answers 0, or the first of 16, 8; a refusal leaves the image and lists nothing.
 // `count` becomes how many words were changed, and of `list` three numbers are written for each: register,
 // old value, new value, in register order.
-#[unsafe(no_mangle)]
-pub extern "C" fn spoonwing_mend(image: &mut [u8], list: &mut [u32; 156], count: &mut usize) -> u32
+pub fn spoonwing_mend(image: &mut [u8], list: &mut [u32; 156], count: &mut usize) -> u32
     ensures answer { result ≡ mend_answer image.old }
     ensures image { image.new ≡ mend_image image.old }
     ensures list { list.new ≡ over (mend_list image.old) list.old }

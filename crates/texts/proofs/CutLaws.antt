@@ -11,7 +11,7 @@ use lib.ListN.{length, take, drop}
 use lib.Seq.{take_all, take-append-le, take-take, length-take-le, drop-length, append_snoc}
 use lib.Dec.{eqb}
 use borrow.Author.Tests.{ne_eqb, lt-ltb, le-ltb}
-use Rattle.bytes.specs.Bytes.{index_of, index_after}
+use Rattle.octets.specs.Bytes.{index_of, index_after}
 use Rattle.lists.specs.Choice.{choose}
 use Rattle.lists.proofs.Choice.{split}
 use Rattle.texts.specs.Lines.{line_feed, lines_from, ends_in, line_in, held_in, used_in}

@@ -8,7 +8,7 @@ use native.Mathlib.Omega.{arith}
 use lib.ListN.{length, take, drop, length-drop, length-append, drop_of_length-le}
 use lib.Seq.{length-take-le, take_all, take-length, take-append-add, drop-drop}
 use borrow.Author.Tests.{lt-ltb, le-ltb}
-use Rattle.bytes.specs.Bytes.{index_of, slice}
+use Rattle.octets.specs.Bytes.{index_of, slice}
 use Rattle.lists.specs.Over.{over}
 use Rattle.lists.specs.Choice.{choose}
 use Rattle.lists.proofs.Choice.{split}

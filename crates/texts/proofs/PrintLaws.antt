@@ -7,8 +7,8 @@ use lib.ListN.{length, take, drop, set, length-drop, length-append, drop_of_leng
 use lib.Seq.{length-take-le, drop-drop}
 use Rattle.lists.specs.Over.{over}
 use Rattle.lists.proofs.Over.{over-set}
-use Rattle.hex.specs.Hex.{digits_of}
-use Rattle.hex.proofs.HexLaws.{length-digits_of}
+use Rattle.hexadecimal.specs.Hex.{digits_of}
+use Rattle.hexadecimal.proofs.HexLaws.{length-digits_of}
 use Rattle.texts.specs.Lines.{line_feed}
 use Rattle.texts.specs.Replies.{reply_text}
 use Rattle.texts.proofs.GatherLaws.{rest-is}

@@ -1,7 +1,7 @@
 -- Text cut into lines, whole and as it comes in blocks of bytes: 01 "Sheet program and host entry". The
 -- laws that tie the two are proved in `proofs/`. Assumes nothing.
 use Rattle.std.specs.Prelude.{ℕ, ◌+◌, Bool, List, [], ◌∷◌, ◌++◌, length, take, ltb, eqb}
-use Rattle.bytes.specs.Bytes.{index_of}
+use Rattle.octets.specs.Bytes.{index_of}
 use Rattle.lists.specs.Choice.{pick, choose}
 
 -- "Lines end with a line feed"

@@ -1,6 +1,6 @@
 -- Numbers as bytes and bytes as a printed line: 01 "Sheet program and host entry". Assumes nothing.
 use Rattle.std.specs.Prelude.{ℕ, ◌/◌, ◌%◌, List, [], ◌∷◌, ◌++◌}
-use Rattle.hex.specs.Hex.{digits_of}
+use Rattle.hexadecimal.specs.Hex.{digits_of}
 use Rattle.texts.specs.Lines.{line_feed}
 
 -- a number of four digits as bytes

@@ -34,7 +34,7 @@ fn keep(text: &mut [u8], held: usize, part: &[u8]) -> usize
     let most = text.len();
     let n = least(held, most);
     let m = least(part.len(), most - n);
-    bytes::copy(&part[..m], &mut text[n..]);
+    octets::copy(&part[..m], &mut text[n..]);
     n + m
 }
 
@@ -46,7 +46,7 @@ pub fn gather(text: &mut [u8], held: usize, block: &[u8]) -> Gathered
         ≡ over (line_with text.old held block.now) text.old }
     ensures kept_in_bounds { (result.kept ≤ length text.old) × (result.used ≤ length block.now) }
 {
-    let at = bytes::scan::find(block, 0, block.len(), LINE_FEED);
+    let at = octets::find(block, LINE_FEED);
     let kept = keep(text, held, &block[..at]);
     if at < block.len() {
         return Gathered {
@@ -69,7 +69,7 @@ pub fn print_line(reply: &[u8], out: &mut [u8]) -> usize
         × (out.new ≡ over (reply_text reply.now) out.old) }
 {
     let n = 2 * reply.len();
-    hex::print_bytes(reply, out);
+    hexadecimal::print_bytes(reply, out);
     out[n] = LINE_FEED;
     n + 1
 }

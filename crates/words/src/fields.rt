@@ -5,7 +5,7 @@ ghost use Rattle.words.specs.Fields.{shown_of, update_of, width_of, height_of, g
 ghost use Rattle.words.specs.Fields.{active_bank_of, layer_of, low_of, high_of};
 
 // The six words of a layer, read.
-#[derive(Drop)]
+#[derive(Clone, Copy)]
 pub struct Layer {
     pub on: bool,
     pub graphics: bool,
@@ -24,7 +24,7 @@ pub struct Layer {
     pub target: u8,
 }
 
-#[derive(Drop)]
+#[derive(Clone, Copy)]
 pub struct Ground {
     pub c0: u8,
     pub c1: u8,

@@ -1,7 +1,7 @@
 // Hexadecimal digits as bytes, and bytes as digits.
 ghost use Rattle.std.specs.Prelude.{◌≡◌, true, ◌*◌, ◌/◌, ◌<◌, ◌≤◌, length, take};
 ghost use Rattle.lists.specs.Over.{over};
-ghost use Rattle.hex.specs.Hex.{value_of, is_hex, bytes_in, digit_of, digits_of};
+ghost use Rattle.hexadecimal.specs.Hex.{value_of, is_hex, bytes_in, digit_of, digits_of};
 
 // The value of a digit of either case; 16 of any other byte.
 fn value(c: u8) -> u8

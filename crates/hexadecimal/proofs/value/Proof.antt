@@ -1,9 +1,9 @@
--- `hex::value` meets its contract: each `return` is a case of `value_of`. Assumes nothing.
+-- `hexadecimal::value` meets its contract: each `return` is a case of `value_of`. Assumes nothing.
 use borrow.Author.Rules.{rules}
 use Rattle.lists.proofs.Tests.{tests}
-use Rattle.hex.specs.Hex.{value_of}
-use Rattle.hex.proofs.value.Statement.{statement}
-use Rattle.hex.proofs.value.Tie as tie
+use Rattle.hexadecimal.specs.Hex.{value_of}
+use Rattle.hexadecimal.proofs.value.Statement.{statement}
+use Rattle.hexadecimal.proofs.value.Tie as tie
 
 returns : tie.Need-returns
 unfolding value_of

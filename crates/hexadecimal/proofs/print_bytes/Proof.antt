@@ -1,4 +1,4 @@
--- `hex::print_bytes` meets its contract: at the head of turn i the digits of the first i
+-- `hexadecimal::print_bytes` meets its contract: at the head of turn i the digits of the first i
 -- bytes are written. The measure is what is left. Assumes nothing.
 use borrow.Author.Rules.{rules}
 use native.Mathlib.Omega.{arith}
@@ -7,10 +7,10 @@ use mathlib.Core.Path.{◌≡◌, refl}
 use lib.ListN.{length, take, length-set}
 use Rattle.lists.specs.Over.{over}
 use Rattle.lists.proofs.Over.{over_none}
-use Rattle.hex.specs.Hex.{digits_of}
-use Rattle.hex.proofs.HexLaws.{digits_of-turn, digits_of-end}
-use Rattle.hex.proofs.print_bytes.Statement.{statement}
-use Rattle.hex.proofs.print_bytes.Tie as tie
+use Rattle.hexadecimal.specs.Hex.{digits_of}
+use Rattle.hexadecimal.proofs.HexLaws.{digits_of-turn, digits_of-end}
+use Rattle.hexadecimal.proofs.print_bytes.Statement.{statement}
+use Rattle.hexadecimal.proofs.print_bytes.Tie as tie
 
 abbrev invariant-loop : tie.invariant-loop
 invariant-loop bytes out₀ i₀ out i =

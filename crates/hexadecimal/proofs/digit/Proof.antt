@@ -1,9 +1,9 @@
--- `hex::digit` meets its contract: each `return` is a case of `digit_of`. Assumes nothing.
+-- `hexadecimal::digit` meets its contract: each `return` is a case of `digit_of`. Assumes nothing.
 use borrow.Author.Rules.{rules}
 use Rattle.lists.proofs.Tests.{tests}
-use Rattle.hex.specs.Hex.{digit_of}
-use Rattle.hex.proofs.digit.Statement.{statement}
-use Rattle.hex.proofs.digit.Tie as tie
+use Rattle.hexadecimal.specs.Hex.{digit_of}
+use Rattle.hexadecimal.proofs.digit.Statement.{statement}
+use Rattle.hexadecimal.proofs.digit.Tie as tie
 
 add-result : tie.Need-overflow-add-result
 add-result c = search rules

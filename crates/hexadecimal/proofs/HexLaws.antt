@@ -14,7 +14,7 @@ use lib.Dec.{eqb}
 use Rattle.lists.specs.Over.{over}
 use Rattle.lists.proofs.Choice.{split}
 use Rattle.lists.proofs.Over.{over-set}
-use Rattle.hex.specs.Hex.{value_of, is_hex, bytes_in, digit_of, digits_of}
+use Rattle.hexadecimal.specs.Hex.{value_of, is_hex, bytes_in, digit_of, digits_of}
 
 -- ---- reading
 

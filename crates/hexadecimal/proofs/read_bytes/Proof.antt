@@ -1,4 +1,4 @@
--- `hex::read_bytes` meets its contract. At the head of turn i the digits from 2·i on are as
+-- `hexadecimal::read_bytes` meets its contract. At the head of turn i the digits from 2·i on are as
 -- good as the whole text, and the first i bytes stand before what they stand for. The measure is
 -- what is left. Assumes nothing.
 use borrow.Author.Rules.{rules}
@@ -7,10 +7,10 @@ use mathlib.Core.Path.{◌≡◌, refl}
 use mathlib.Core.Bool.{false≢true}
 use mathlib.Core.List.{◌++◌}
 use lib.ListN.{length, take, drop, length-set}
-use Rattle.hex.specs.Hex.{is_hex, bytes_in}
-use Rattle.hex.proofs.HexLaws.{is_hex-upper, is_hex-lower, is_hex-turn, is_hex-end, bytes_in-turn, bytes_in-end}
-use Rattle.hex.proofs.read_bytes.Statement.{statement}
-use Rattle.hex.proofs.read_bytes.Tie as tie
+use Rattle.hexadecimal.specs.Hex.{is_hex, bytes_in}
+use Rattle.hexadecimal.proofs.HexLaws.{is_hex-upper, is_hex-lower, is_hex-turn, is_hex-end, bytes_in-turn, bytes_in-end}
+use Rattle.hexadecimal.proofs.read_bytes.Statement.{statement}
+use Rattle.hexadecimal.proofs.read_bytes.Tie as tie
 
 abbrev invariant-loop : tie.invariant-loop
 invariant-loop text bytes₀ i₀ bytes i =

@@ -6,8 +6,8 @@ use mathlib.Core.Path.{◌≡◌, ◌∙◌}
 use mathlib.Core.Bool.{true}
 use lib.ListN.{length, take}
 use Rattle.lists.proofs.Choice.{meet}
-use Rattle.hex.proofs.read_bytes.Reads as ReadBytes
-use Rattle.hex.proofs.print_bytes.Reads as PrintBytes
+use Rattle.hexadecimal.proofs.read_bytes.Reads as ReadBytes
+use Rattle.hexadecimal.proofs.print_bytes.Reads as PrintBytes
 
 -- the answer and, of a good text, the bytes that it stands for; no more of the buffer is promised
 pub read-bytes-unique : (κs i a b e f : _) → ReadBytes.Post κs i a e → ReadBytes.Post κs i b f

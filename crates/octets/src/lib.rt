@@ -1,0 +1,26 @@
+// A byte sought in a row of bytes, and a row of bytes copied to the front of another.
+#![tactic(auto)]
+ghost use Rattle.std.specs.Prelude.{◌≡◌, ◌≤◌, length};
+ghost use Rattle.lists.specs.Over.{over};
+ghost use Rattle.octets.specs.Bytes.{index_of};
+
+// Where the byte first stands, or the length of a row that has none.
+pub fn find(row: &[u8], byte: u8) -> usize
+    ensures value { result ≡ index_of byte row.now }
+    ensures within { result ≤ length row.now }
+{
+    for (i, x) in row.iter().enumerate() {
+        if *x == byte {
+            return i;
+        }
+    }
+    row.len()
+}
+
+// The part, to the front of the row.
+pub fn copy(part: &[u8], row: &mut [u8])
+    requires { length part.now ≤ length row.old }
+    ensures { row.new ≡ over part.now row.old }
+{
+    row[..part.len()].copy_from_slice(part);
+}
