@@ -27,7 +27,7 @@ const SELECTIONS: u32 = 64;
 
 // Only `new` and the calls below make one: its fields are closed to other crates. So what painting asks of a state
 // (`Arranged`) is so of every one.
-#[derive(Drop)]
+#[derive(Clone, Copy)]
 pub struct Display {
     pending: [u32; 52],
     active: [u32; 52],
@@ -40,7 +40,7 @@ pub struct Display {
 }
 
 // What a call answers: the state afterwards, and 0 or the number of the refusal.
-#[derive(Drop)]
+#[derive(Clone, Copy)]
 pub struct Told {
     pub state: Display,
     pub answer: u8,
@@ -48,7 +48,7 @@ pub struct Told {
 
 // What a run answers: the state afterwards, 0 or the number of the refusal that stopped it, and how many
 // items were done before it.
-#[derive(Drop)]
+#[derive(Clone, Copy)]
 pub struct Ran {
     pub state: Display,
     pub answer: u8,
@@ -101,7 +101,7 @@ fn made(soft: bool, floats: bool, answer: u8) -> Told
 }
 
 // What a start makes of the pending words: whether they become the active ones, and its answer.
-#[derive(Drop)]
+#[derive(Clone, Copy)]
 struct Verdict {
     passes: bool,
     answer: u8,

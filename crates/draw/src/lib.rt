@@ -11,7 +11,7 @@ pub mod instruction;
 pub mod runs;
 
 // Whether a list has an END, and how many instructions stand before it.
-#[derive(Drop)]
+#[derive(Clone, Copy)]
 pub struct ListEnd {
     pub found: bool,
     pub count: usize,

@@ -24,7 +24,7 @@ const AWAY: [u32; 16] = [
 
 const ONE_PIXEL: u32 = 65536 + 1;
 
-#[derive(Drop)]
+#[derive(Clone, Copy)]
 struct Case {
     value: u8,
     target: u8,

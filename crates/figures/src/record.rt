@@ -4,7 +4,7 @@
 //     W 00000001 00030004
 ghost use Rattle.std.specs.Prelude.{◌<◌, ◌≤◌};
 
-#[derive(Drop)]
+#[derive(Clone, Copy)]
 pub struct Record {
     pub letter: u8,
     pub a: u32,

@@ -22,7 +22,7 @@ use tables::tables_len;
 
 // How many bytes are lent, of the floats how many numbers, counted from a buffer's front; more than it has
 // is all of it.
-#[derive(Drop)]
+#[derive(Clone, Copy)]
 pub struct Lent {
     pub tables: u32,
     pub pictures: u32,
@@ -31,7 +31,7 @@ pub struct Lent {
 }
 
 // After a record: what its call answered, and how many items that did if it was a run.
-#[derive(Drop)]
+#[derive(Clone, Copy)]
 pub struct Stage {
     pub state: Display,
     pub answer: u8,

@@ -22,14 +22,14 @@ mod sizes;
 pub use sizes::{MOST_DIGITS, MOST_PRINTED};
 
 // The state afterwards, and how many bytes the reply has.
-#[derive(Drop)]
+#[derive(Clone, Copy)]
 pub struct Replied {
     pub state: Display,
     pub count: usize,
 }
 
 // The state afterwards, and how many bytes were printed.
-#[derive(Drop)]
+#[derive(Clone, Copy)]
 pub struct Printed {
     pub state: Display,
     pub count: usize,

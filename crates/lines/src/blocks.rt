@@ -18,7 +18,7 @@ use texts::gather;
 
 // What goes on from call to call. Only `begin` and `feed` make one: its fields are closed to other
 // crates.
-#[derive(Drop)]
+#[derive(Clone, Copy)]
 pub struct Going {
     state: Display,
     // How many bytes of a line have come; they stand at the front of the text.
@@ -26,7 +26,7 @@ pub struct Going {
 }
 
 // What a call of `feed` answers.
-#[derive(Drop)]
+#[derive(Clone, Copy)]
 pub struct Fed {
     pub going: Going,
     // How many bytes of the block are used up.

@@ -18,7 +18,7 @@ const WORDS: usize = REGISTERS as usize;
 const WRITE_LEN: usize = 5;
 
 // What a run of puts leaves, 0 or the number of the refusal that stopped it, and how many were done.
-#[derive(Drop)]
+#[derive(Clone, Copy)]
 pub struct Loaded {
     pub place: u32,
     pub errors: u32,
@@ -27,7 +27,7 @@ pub struct Loaded {
 }
 
 // What a run of writes answers: 0 or the number of the refusal, and how many were done.
-#[derive(Drop)]
+#[derive(Clone, Copy)]
 pub struct Went {
     pub answer: u8,
     pub done: usize,

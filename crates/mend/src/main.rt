@@ -17,7 +17,7 @@ use texts::gather;
 mod line;
 mod sizes;
 
-#[derive(Drop)]
+#[derive(Clone, Copy)]
 struct Answered {
     // How many bytes of the next line have come; they stand at the front of the text.
     held: usize,

@@ -12,14 +12,14 @@ use words::fields::{Layer, layer_of};
 use words::pictures::Pictures;
 
 // The first `count` of `layers` are layer numbers; the rest is 0.
-#[derive(Drop)]
+#[derive(Clone, Copy)]
 pub struct Order {
     pub layers: [u8; 8],
     pub count: u8,
 }
 
 // What a painting needs of the words alone.
-#[derive(Drop)]
+#[derive(Clone, Copy)]
 pub struct Layout {
     pub order: Order,
     pub pictures: Pictures,

@@ -22,7 +22,7 @@ use words::fields::{ground_of, is_shown, screen_height};
 mod rows;
 
 // What painting answers: 0 or the number of the refusal, and the error word afterwards.
-#[derive(Drop)]
+#[derive(Clone, Copy)]
 pub struct Painted {
     pub answer: u8,
     pub errors: u32,

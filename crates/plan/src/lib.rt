@@ -54,7 +54,7 @@ pub struct Part {
 }
 
 // The first `count` of `steps` are the layers of a part, the lowest first.
-#[derive(Drop)]
+#[derive(Clone, Copy)]
 pub struct Plan {
     pub steps: [Step; 8],
     pub count: usize,

@@ -3,7 +3,7 @@
 ghost use Rattle.std.specs.Prelude.{◌≡◌, ◌<◌, ◌≤◌};
 ghost use Rattle.profiles.specs.Profile.{bits_of};
 
-#[derive(Drop)]
+#[derive(Clone, Copy)]
 pub struct Profile {
     // Whether a pixel of a glyph has two bits; else it has one.
     pub soft: bool,

@@ -20,7 +20,7 @@ use words::pictures::Pictures;
 pub const DEPTHS: u32 = 8;
 
 // How long what is lent to read is: the floats in f32 numbers, the others in bytes.
-#[derive(Drop)]
+#[derive(Clone, Copy)]
 pub struct Lengths {
     pub tables: usize,
     pub pictures: usize,

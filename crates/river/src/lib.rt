@@ -23,7 +23,7 @@ const EXPONENT: u32 = 0x80_0000;
 const LEAST_EXPONENT: u32 = 118;
 
 // A pixel as a shader leaves it.
-#[derive(Drop)]
+#[derive(Clone, Copy)]
 pub struct Pixel {
     pub red: f32,
     pub green: f32,

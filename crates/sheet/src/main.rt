@@ -13,7 +13,7 @@ use libc::{STDIN_FILENO, STDOUT_FILENO};
 use lines::{Going, MOST_KEPT, OUT_LEN};
 
 // Where a block has come to.
-#[derive(Drop)]
+#[derive(Clone, Copy)]
 struct Place {
     going: Going,
     // How many of its bytes are used up.

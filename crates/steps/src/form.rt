@@ -4,7 +4,7 @@ ghost use Rattle.std.specs.Prelude.{◌≡◌, ◌<◌};
 ghost use Rattle.steps.specs.Form.{byte_at, count_at, word_at, writes_place};
 ghost use Rattle.steps.specs.Engine.Parts.{parts_of};
 
-#[derive(Drop)]
+#[derive(Clone, Copy)]
 pub struct Parts {
     pub good: bool,
     // Where the number of writes and the picture byte count stand.

@@ -54,7 +54,7 @@ const FONT_AT: usize = 1088;
 const KIND_AT: [usize; 4] = [0, 768, 832, FONT_AT];
 
 // The table that puts go to, and the place of the next byte in it. Until one is made nothing is selected.
-#[derive(Drop)]
+#[derive(Clone, Copy)]
 pub struct Selection {
     pub made: bool,
     pub number: u32,

@@ -14,7 +14,7 @@ pub const LINE_FEED: u8 = 10;
 pub const BAD_FORM: u8 = 254;
 
 // What a block has brought to a line.
-#[derive(Drop)]
+#[derive(Clone, Copy)]
 pub struct Gathered {
     // How many bytes of the line have come; they stand at the front of the text.
     pub kept: usize,
