@@ -7,6 +7,7 @@
 //      768  colours        16 of  4            kind 1
 //      832  strings         8 of 32            kind 2
 //    1,088  font           96 of  8            kind 3                       with two bits 96 of 16
+#![tactic(auto)]
 
 ghost use Rattle.std.specs.Prelude.{◌≡◌, ◌+◌, ◌<◌, ◌≤◌};
 ghost use Rattle.tables.specs.Geometry.{tables_len, bank_len, font_len, kind_len, bank_at};

@@ -1,0 +1,13 @@
+-- `display::doors::spoonwing_display_new` meets its contract: a wrong length is the first case, and else
+-- the call is made and its state put back. Assumes nothing.
+use Rattle.std.proofs.Common.{refl}
+use Rattle.display.proofs.DoorLaws.{door-length, door-done}
+use Rattle.display.proofs.doors.spoonwing_display_new.Goals as goal
+
+pub returns-then-state-ne-STATE_LEN : goal.returns-then-state-ne-STATE_LEN
+returns-then-state-ne-STATE_LEN c = door-length _ _ c.if-state-ne-STATE_LEN.true
+
+pub returns : goal.returns
+returns c = door-done _ _ _ _ _ _ c.if-state-ne-STATE_LEN.false refl
+    c.new.ensures
+    c.given.ensures.answer c.given.ensures.state

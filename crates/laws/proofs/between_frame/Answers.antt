@@ -1,0 +1,10 @@
+-- `laws::between_frame` meets its contract: by the law of `frame`'s bytes, since lent buffers are of bytes.
+-- Assumes nothing.
+use Rattle.laws.proofs.Calls.{between-frame}
+use Rattle.laws.proofs.between_frame.Goals as goal
+
+pub returns : goal.returns
+returns c = rw c.frame.ensures.output
+    (between-frame _ _ _ _ _ framing
+    (λ i. (c.shared_slice_known-1.given i).fits)
+    (λ i. (c.shared_slice_known-2-1.given i).fits))

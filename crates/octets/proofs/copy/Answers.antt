@@ -1,0 +1,8 @@
+-- `octets::copy` meets its contract: the front becomes the part. Assumes nothing.
+use Rattle.std.proofs.Common.{arith, rules, refl}
+use Rattle.lists.specs.Over.{over}
+use Rattle.octets.proofs.copy.Goals as goal
+
+pub returns : goal.returns
+unfolding over
+returns c = rw c.copy_from_slice.ensures.after

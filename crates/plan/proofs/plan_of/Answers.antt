@@ -1,0 +1,59 @@
+-- `plan::plan_of` meets its contract: the invariant is that the part's layers among the first i
+-- of the order are planned, and their bits set; the measure is what is left. Assumes nothing.
+use borrow.Author.Rules.{rules}
+use mathlib.Core.Path.{◌≡◌, ap, ◌∙◌}
+use Prim.Native.Nat.{◌-◌}
+use native.Mathlib.Omega.{arith}
+use Rattle.plan.proofs.PlanLaws.{plan-none, plan-next, plan-all, plan-room}
+use Prim.Native.Nat.{◌<◌}
+use lib.ListN.{length, get_or}
+use Rattle.order.specs.declared.Order.{Order}
+use Rattle.words.specs.Order.{order_of}
+use Rattle.words.proofs.OrderLaws.{order_of-enabled, length-order_of-le}
+use Rattle.order.proofs.PackedLaws.{packed-at}
+use Rattle.order.proofs.LayoutLaws.{held-order, held-count, held-starts}
+use Rattle.plan.proofs.plan_of.Goals as goal
+use Rattle.plan.proofs.plan_of.Lts as lts
+
+pub loop-i-init : goal.loop-i-init
+loop-i-init c = (search rules, plan-none _ _ _ _ _ _ _ c.empty-plan.ensures)
+
+-- ---- the held order is that of the words
+
+
+abbrev start : lts.In-loop invariant-loop decreases-loop → lts.Start invariant-loop decreases-loop
+start c = c.before.before.before.before.before.before.before
+
+few : (c : goal.In-loop-i) → c.loop-i.i < length (order_of (start c).args.w.now)
+few c = omega (arith, held-count _ _ (start c).requires.1)
+
+layer-at : (c : goal.In-loop-i)
+    → get_or (start c).args.layout.order.layers c.loop-i.i 0
+    ≡ get_or (order_of (start c).args.w.now) c.loop-i.i 0
+layer-at c =
+    ap (λ (o : Order). get_or o.layers c.loop-i.i 0) (held-order _ _ (start c).requires.1)
+    ∙ packed-at (order_of (start c).args.w.now) c.loop-i.i (few c)
+
+pub bounds-layers-i : goal.bounds-layers-i
+bounds-layers-i c = omega (arith, few c, length-order_of-le (start c).args.w.now)
+
+pub with_layer-plan-requires : goal.with_layer-plan-requires
+with_layer-plan-requires c = (
+  (start c).requires.0,
+  rw (layer-at c) (order_of-enabled _ _ (few c)).0,
+  (start c).requires.2,
+  held-starts _ _ (start c).requires.1,
+  plan-room _ _ _ _ _ _ _ _ (few c) c.loop-i.invariant.1,
+)
+
+pub loop-i-preserved : goal.loop-i-preserved
+loop-i-preserved c = (
+  search rules,
+  plan-next _ _ _ _ _ _ _ _ _ _ (few c.before) (layer-at c.before)
+      c.loop-i.invariant.1 c.with_layer-plan.ensures,
+)
+
+pub returns : goal.returns
+returns c = let a = c.args in let e = held-count _ _ c.requires.1 in
+    plan-all a.bits a.w.now a.frame a.tables.now _ _ c.loop-i.i _ (omega arith)
+    c.loop-i.invariant.1

@@ -1,0 +1,13 @@
+-- `repair::places::fit` meets its contract: the invariant is that the layers below n had their turn; the
+-- measure is what is left. Assumes nothing.
+use mathlib.Core.Path.{◌≡◌}
+use Prim.Native.Nat.{◌≤◌, ◌-◌}
+use Rattle.lists.specs.Runs.{run}
+use Rattle.repair.specs.Steps.{fit_at}
+use Rattle.repair.proofs.places.fit.Given as goal
+
+abbrev pub invariant-loop-n : goal.invariant-loop-n
+invariant-loop-n l = (l.n ≤ 8) × (l.w ≡ run 0 l.n fit_at l.initial.w)
+
+abbrev pub decreases-loop-n : goal.decreases-loop-n
+decreases-loop-n l = 8 - l.n

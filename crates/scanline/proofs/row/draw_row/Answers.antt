@@ -1,0 +1,11 @@
+-- `scanline::row::draw_row` meets its contract: the four parts lie in their buffers, and what they draw are the layer's
+-- colour indexes. Assumes nothing.
+use Rattle.scanline.proofs.DrawLaws.{banked-tables, banked-count, banked-indexes, extended-spans}
+use Rattle.scanline.proofs.row.draw_row.Goals as goal
+
+pub draw_line-requires : goal.draw_line-requires
+draw_line-requires c = let a = c.requires in rw c.font_len.ensures
+    ((banked-tables _ _ a.0, banked-count _ _ a.0), extended-spans _ _ _ _ a.1)
+
+pub returns : goal.returns
+returns c = banked-indexes _ _ _ _ _ (rw c.font_len.ensures at c.draw_line.ensures)

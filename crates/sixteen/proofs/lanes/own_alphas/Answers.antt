@@ -1,0 +1,15 @@
+-- `sixteen::lanes::own_alphas` meets its contract: the loop has filled both words of the first k
+-- pixels; the measure is what is left. Assumes nothing.
+use Prim.Native.Nat.{◌-◌}
+use borrow.Author.Rules.{rules}
+use Rattle.sixteen.proofs.LaneLaws.{filled_none, filled-both, high-lanes}
+use Rattle.sixteen.proofs.lanes.own_alphas.Goals as goal
+
+pub loop-k-init : goal.loop-k-init
+loop-k-init c = filled_none _ (search rules)
+
+pub loop-k-preserved : goal.loop-k-preserved
+loop-k-preserved c = search (high-lanes, rules)
+
+pub returns : goal.returns
+returns c = search (filled-both, rules)

@@ -1,0 +1,11 @@
+-- `steps::write` meets its contract: left out after a refusal, else the call. Assumes
+-- nothing.
+use borrow.Author.Rules.{rules}
+use Rattle.steps.proofs.StepLaws.{step_of-refused, write_done}
+use Rattle.steps.proofs.write.Goals as goal
+
+pub returns-then-answer-ne-DONE : goal.returns-then-answer-ne-DONE
+returns-then-answer-ne-DONE c = λ l. search (step_of-refused, rules)
+
+pub returns : goal.returns
+returns c = λ l. search (write_done, rules)

@@ -1,0 +1,25 @@
+-- `texts::keep` meets its contract: the bytes for which there is room are copied behind those that are
+-- held. Assumes nothing.
+use native.Mathlib.Omega.{arith}
+use mathlib.Core.Path.{sym}
+use Rattle.texts.proofs.GatherLaws.{part-long, kept-long, kept-room, kept-over}
+use Rattle.texts.proofs.keep.Goals as goal
+
+pub slice_bounds-copy-end : goal.slice_bounds-copy-end
+slice_bounds-copy-end c = sym (part-long c.args.text.now c.args.part.now c.args.held c.least-n.result
+    c.least-m.result (omega (arith, c.least-n.ensures))
+    (omega (arith, c.least-m.ensures)))
+
+pub copy-requires : goal.copy-requires
+copy-requires c = kept-room c.args.text.now c.args.part.now c.args.held c.least-n.result
+    c.least-m.result (omega (arith, c.least-n.ensures))
+    (omega (arith, c.least-m.ensures))
+
+pub returns : goal.returns
+returns c = let n = c.least-n in let m = c.least-m in (
+      kept-long c.args.text.now c.args.part.now c.args.held n.result m.result
+          (omega (arith, n.ensures)) (omega (arith, m.ensures)),
+      omega (arith, n.ensures, m.ensures),
+      kept-over c.args.text.now c.args.part.now c.args.held n.result m.result
+          (omega (arith, n.ensures)) (omega (arith, m.ensures)) _ c.copy.ensures.1,
+    )
