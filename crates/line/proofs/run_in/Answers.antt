@@ -29,8 +29,11 @@ print_line-count-requires c = let k = c.answer-r in omega (
     )
 
 pub returns : goal.returns
-returns c = let a =
+returns c = 
+    let a =
     c.args in
+    let r =
     line-is a.state a.tables.now a.text.now _ _ _ _ _ _
     c.answer-r.ensures
-    c.print_line-count.ensures.0 c.print_line-count.ensures.1
+    c.print_line-count.ensures.0 c.print_line-count.ensures.1 in
+    record { value = r.0; tables_after = r.1.0; out_after = r.1.1.0; count_le_most_printed = r.1.1.1; }

@@ -3,7 +3,7 @@ use Rattle.order.proofs.StartLaws.{picture-floats, picture-bytes}
 use Rattle.order.proofs.with_picture.Goals as goal
 
 pub returns-then-l : goal.returns-then-l
-returns-then-l c = let a = c.args in picture-floats a.t1 a.l a.n _ c.picture_len-len.ensures c.if-l.true
+returns-then-l c = let a = c.args in picture-floats a.pictures a.l a.n _ c.picture_len-len.ensures c.if-l.true
 
 pub returns : goal.returns
-returns c = let a = c.args in picture-bytes a.t1 a.l a.n _ c.picture_len-len.ensures c.if-l.false
+returns c = let a = c.args in picture-bytes a.pictures a.l a.n _ c.picture_len-len.ensures c.if-l.false

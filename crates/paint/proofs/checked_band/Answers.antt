@@ -32,7 +32,9 @@ paint_unless-requires c = (
     )
 
 pub returns : goal.returns
-returns c = let p = rw c.screen_height.ensures at c.paint_unless.ensures in (
-      p.0 ∙ whole-told (scene c.before.before.before.before.before) _ _ (start c.before.before.before.before.before).args.fresh (start c.before.before.before.before.before).args.out.now _ _ (refused c.before.before.before.before.before),
-      p.1 ∙ whole-output (scene c.before.before.before.before.before) _ _ _ _ _ (start c.before.before.before.before.before).args.errors (refused c.before.before.before.before.before),
-    )
+returns c = 
+    let p = rw c.screen_height.ensures at c.paint_unless.ensures in
+    record {
+      told = p.0 ∙ whole-told (scene c.before.before.before.before.before) _ _ (start c.before.before.before.before.before).args.fresh (start c.before.before.before.before.before).args.out.now _ _ (refused c.before.before.before.before.before);
+      output = p.1 ∙ whole-output (scene c.before.before.before.before.before) _ _ _ _ _ (start c.before.before.before.before.before).args.errors (refused c.before.before.before.before.before);
+    }

@@ -28,7 +28,9 @@ pub paint_unless-requires : goal.paint_unless-requires
 paint_unless-requires c = ((start c.before).requires, line-asked (scene c.before) _ _ _ (start c.before).args.errors (refused c.before))
 
 pub returns : goal.returns
-returns c = let p = c.paint_unless.ensures in (
-      p.told ∙ line-told (scene c.before.before.before.before) _ (start c.before.before.before.before).args.out.now _ _ (refused c.before.before.before.before),
-      p.output ∙ line-output (scene c.before.before.before.before) _ _ _ (start c.before.before.before.before).args.errors (refused c.before.before.before.before),
-    )
+returns c = 
+    let p = c.paint_unless.ensures in
+    record {
+      told = p.told ∙ line-told (scene c.before.before.before.before) _ (start c.before.before.before.before).args.out.now _ _ (refused c.before.before.before.before);
+      output = p.output ∙ line-output (scene c.before.before.before.before) _ _ _ (start c.before.before.before.before).args.errors (refused c.before.before.before.before);
+    }

@@ -24,11 +24,14 @@ pub shape_of-out-then-not-is_shown : goal.shape_of-out-then-not-is_shown
 shape_of-out-then-not-is_shown c = ap length c.lay_ground.ensures ∙ length-each _ _
 
 pub returns-then-not-is_shown : goal.returns-then-not-is_shown
-returns-then-not-is_shown c = let off = sym c.is_shown.ensures
+returns-then-not-is_shown c = 
+    let off = sym c.is_shown.ensures
     ∙ not-true _ c.if-not-is_shown.true in
+    let r =
     part_off _ c.args.part _ _ _ _ off
     ((rw c.ground_of.ensures at c.lay_ground.ensures)
-    ∙ each-cong _ _ c.args.out.now (λ i p. ground-byte c.args.w.now c.args.fresh i p))
+    ∙ each-cong _ _ c.args.out.now (λ i p. ground-byte c.args.w.now c.args.fresh i p)) in
+    record { errors = r.0; output = r.1; }
 
 pub plan_of-plan-requires : goal.plan_of-plan-requires
 plan_of-plan-requires c = rw c.bits_of.ensures.0 (bits-few c.args.profile, c.requires.0, c.requires.1.lent.tables)
@@ -58,10 +61,13 @@ pub shape_of-out : goal.shape_of-out
 shape_of-out c = c.paint_rows.auto.out
 
 pub returns : goal.returns
-returns c = let a = start c.before.before.before.before in
+returns c = 
+    let a = start c.before.before.before.before in
     let on = sym c.is_shown.ensures
     ∙ not-false _ c.if-not-is_shown.false in
+    let r =
     part-on _ _ _ _ _ _ _ on (marked c.before.before.before.before ∙ marks-is _ _ _ _ a.pre.1.low a.pre.1.high)
     (c.paint_rows.ensures.laid _
     (refl, record { draws = refl; shows = refl; flows = refl })
-    (record { order = a.pre.1.low; end = a.pre.1.high; planned = planned c.before.before.before.before }))
+    (record { order = a.pre.1.low; end = a.pre.1.high; planned = planned c.before.before.before.before })) in
+    record { errors = r.0; output = r.1; }

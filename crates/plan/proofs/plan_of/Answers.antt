@@ -54,6 +54,10 @@ loop-i-preserved c = (
 )
 
 pub returns : goal.returns
-returns c = let a = c.args in let e = held-count _ _ c.requires.1 in
+returns c = 
+    let a = c.args in
+    let e = held-count _ _ c.requires.1 in
+    let r =
     plan-all a.bits a.w.now a.frame a.tables.now _ _ c.loop-i.i _ (omega arith)
-    c.loop-i.invariant.1
+    c.loop-i.invariant.1 in
+    record { layers = r.0; errors = r.1; }

@@ -18,8 +18,8 @@ use Rattle.river.proofs.byte_of.Goals as goal
 bits : (c : goal.After-at_most-b)
     → Within c.args.x c.at_most-b.result (to_bits binary32 c.at_most-b.result)
 bits c =
-    rw (c.at_most-b.ensures ∙ ap at_most c.at_least_lem.ensures)
-    (within c.args.x (subst T (sym c.well-formed.0.1) tt))
+    rw (c.at_most-b.ensures ∙ ap at_most c.at_least.ensures)
+    (within c.args.x (subst T (sym c.well_formed.0.1) tt))
 
 pub float_to_bits-b : goal.float_to_bits-b
 float_to_bits-b c = (bits c).number

@@ -4,10 +4,6 @@ use borrow.Author.Rules.{rules}
 use Rattle.lists.proofs.Tests.{tests}
 use Rattle.words.specs.Check.{reserved_at}
 use Rattle.starts.proofs.reserved.Goals as goal
-use Rattle.starts.proofs.reserved.Lts as lts
-
--- LEFT array-read-if1 : lts.Need-array-read-if1
--- LEFT array-read-if1 c = search rules
 
 pub returns-then-w-i-eq0 : goal.returns-then-w-i-eq0
 unfolding reserved_at

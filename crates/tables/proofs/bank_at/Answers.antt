@@ -7,7 +7,6 @@ use native.Mathlib.Omega.{arith}
 use Rattle.tables.specs.Geometry.{kind_at}
 use Rattle.tables.proofs.Geometry.{kind-room, bank-le}
 use Rattle.tables.proofs.bank_at.Goals as goal
-use Rattle.tables.proofs.bank_at.Lts as lts
 
 controllers-le : (bank g : ℕ) → bank ≤ 2624 → g < 8 → 2 * bank * g ≤ 36736
 controllers-le bank g h hg = mul-le-mul {n₂ = 5248} {m₂ = 7} (omega arith) (omega arith)
@@ -31,12 +30,12 @@ overflow_mul-result-3 c = search (banks c, rules)
 pub overflow_add-result : goal.overflow_add-result
 overflow_add-result c = search (controllers c, banks c, rules)
 
--- LEFT array-read-result : lts.Need-array-read-result
--- LEFT array-read-result c = search rules
-
 pub overflow_add-result-2 : goal.overflow_add-result-2
 unfolding kind_at
-overflow_add-result-2 c = omega (arith, controllers c, banks c, kind-room 2 c.args.kind, bank-le 2 (omega arith))
+overflow_add-result-2 c =
+    let controllers = controllers-le _ _ c.bank_len-bank_bytes.ensures.1 c.requires.1 in
+    let banks = banks-le _ _ c.bank_len-bank_bytes.ensures.1 c.requires.2 in
+    omega (arith, controllers, banks, kind-room 2 c.args.kind, bank-le 2 (omega arith))
 
 pub returns : goal.returns
 unfolding kind_at

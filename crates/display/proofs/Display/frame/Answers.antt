@@ -8,8 +8,10 @@ use Rattle.display.proofs.Display.frame.Goals as goal
 
 pub returns : goal.returns
 unfolding frame_told paint_told frame_bytes
-returns c = let d = c.args.t1 in (
-      ap (λ (p : Painted). told (with_errors d p.errors) p.answer)
-          c.frame-painted.ensures.told,
-      c.frame-painted.ensures.output,
-    )
+returns c = 
+    let d = c.args.t1 in
+    record {
+      state = ap (λ (p : Painted). told (with_errors d p.errors) p.answer)
+          c.frame-painted.ensures.told;
+      output = c.frame-painted.ensures.output;
+    }

@@ -8,8 +8,10 @@ use Rattle.display.proofs.Display.line.Goals as goal
 
 pub returns : goal.returns
 unfolding line_told line_bytes
-returns c = let d = c.args.t1 in (
-      ap (λ (p : Painted). told (with_errors d p.errors) p.answer)
-          c.line-painted.ensures.told,
-      c.line-painted.ensures.output,
-    )
+returns c = 
+    let d = c.args.t1 in
+    record {
+      state = ap (λ (p : Painted). told (with_errors d p.errors) p.answer)
+          c.line-painted.ensures.told;
+      output = c.line-painted.ensures.output;
+    }

@@ -8,8 +8,10 @@ use Rattle.display.proofs.Display.paint.Goals as goal
 
 pub returns : goal.returns
 unfolding paint_told paint_bytes
-returns c = let d = c.args.t1 in (
-      ap (λ (p : Painted). told (with_errors d p.errors) p.answer)
-          c.band-painted.ensures.told,
-      c.band-painted.ensures.output,
-    )
+returns c = 
+    let d = c.args.t1 in
+    record {
+      state = ap (λ (p : Painted). told (with_errors d p.errors) p.answer)
+          c.band-painted.ensures.told;
+      output = c.band-painted.ensures.output;
+    }

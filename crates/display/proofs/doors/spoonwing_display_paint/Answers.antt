@@ -4,13 +4,26 @@ use Rattle.display.proofs.DoorLaws.{door-length, door-done, buffer-length, buffe
 use Rattle.display.proofs.doors.spoonwing_display_paint.Goals as goal
 
 pub returns-then-state-ne-STATE_LEN : goal.returns-then-state-ne-STATE_LEN
-returns-then-state-ne-STATE_LEN c = let r = door-length _ _ c.if-state-ne-STATE_LEN.true in
-    (r.0, (r.1, buffer-length _ _ _ c.if-state-ne-STATE_LEN.true))
+returns-then-state-ne-STATE_LEN c = 
+    let r = door-length _ _ c.if-state-ne-STATE_LEN.true in
+    record {
+      answer = r.0;
+      state = r.1;
+      output = buffer-length _ _ _ c.if-state-ne-STATE_LEN.true;
+    }
 
 pub paint-requires : goal.paint-requires
 paint-requires c = taken-arranged _ _ c.taken.ensures
 
 pub returns : goal.returns
-returns c = let long = c.if-state-ne-STATE_LEN.false in let e = c.taken.ensures in let told = c.paint.ensures in let r = door-done _ _ _ _ _ _ long e told.state c.given.ensures.answer
+returns c = 
+    let long = c.if-state-ne-STATE_LEN.false in
+    let e = c.taken.ensures in
+    let told = c.paint.ensures in
+    let r = door-done _ _ _ _ _ _ long e told.state c.given.ensures.answer
     c.given.ensures.state in
-    (r.0, (r.1, buffer-done _ _ _ _ _ long e told.output))
+    record {
+      answer = r.0;
+      state = r.1;
+      output = buffer-done _ _ _ _ _ long e told.output;
+    }

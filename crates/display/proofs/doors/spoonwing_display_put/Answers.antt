@@ -5,10 +5,23 @@ use Rattle.display.proofs.BareLaws.{put-blind, put-tables-blind}
 use Rattle.display.proofs.doors.spoonwing_display_put.Goals as goal
 
 pub returns-then-state-ne-STATE_LEN : goal.returns-then-state-ne-STATE_LEN
-returns-then-state-ne-STATE_LEN c = let r = door-length _ _ c.if-state-ne-STATE_LEN.true in
-    (r.0, (r.1, buffer-length _ _ _ c.if-state-ne-STATE_LEN.true))
+returns-then-state-ne-STATE_LEN c = 
+    let r = door-length _ _ c.if-state-ne-STATE_LEN.true in
+    record {
+      answer = r.0;
+      state = r.1;
+      tables = buffer-length _ _ _ c.if-state-ne-STATE_LEN.true;
+    }
 
 pub returns : goal.returns
-returns c = let long = c.if-state-ne-STATE_LEN.false in let e = c.bare.ensures in let told = c.put.ensures in let r = door-bare _ _ _ (put-blind _) _ _ _ _ long e told.state c.given.ensures.answer
+returns c = 
+    let long = c.if-state-ne-STATE_LEN.false in
+    let e = c.bare.ensures in
+    let told = c.put.ensures in
+    let r = door-bare _ _ _ (put-blind _) _ _ _ _ long e told.state c.given.ensures.answer
     c.given.ensures.state in
-    (r.0, (r.1, buffer-bare _ _ _ (put-tables-blind _ _) _ _ long e told.tables))
+    record {
+      answer = r.0;
+      state = r.1;
+      tables = buffer-bare _ _ _ (put-tables-blind _ _) _ _ long e told.tables;
+    }

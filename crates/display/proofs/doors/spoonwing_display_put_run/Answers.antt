@@ -8,11 +8,17 @@ use Rattle.display.proofs.BareLaws.{put-run-blind, put-run-tables-blind, put-run
 use Rattle.display.proofs.doors.spoonwing_display_put_run.Goals as goal
 
 pub returns-then-state-ne-STATE_LEN : goal.returns-then-state-ne-STATE_LEN
-returns-then-state-ne-STATE_LEN c = let ne = c.if-state-ne-STATE_LEN.true in let r = door-length _ _ ne in
+returns-then-state-ne-STATE_LEN c = 
+    let ne = c.if-state-ne-STATE_LEN.true in
+    let r = door-length _ _ ne in
     (r.0, (r.1, (buffer-length _ _ _ ne, read_length _ _ ne)))
 
 pub returns : goal.returns
-returns c = let long = c.if-state-ne-STATE_LEN.false in let e = c.bare.ensures in let ran = c.put_run-ran.ensures in let r = door-bare _ _ _ (put-run-blind _ _) _ _ _ _ long e
+returns c = 
+    let long = c.if-state-ne-STATE_LEN.false in
+    let e = c.bare.ensures in
+    let ran = c.put_run-ran.ensures in
+    let r = door-bare _ _ _ (put-run-blind _ _) _ _ _ _ long e
     (c.told_by.ensures ∙ ap told_by ran.state)
     c.given.ensures.answer c.given.ensures.state in
     let count = ap (λ (x : Ran). x.done) ran.state in

@@ -8,11 +8,25 @@ use Rattle.display.proofs.BareLaws.{write-run-blind, write-run-done-blind}
 use Rattle.display.proofs.doors.spoonwing_display_write_run.Goals as goal
 
 pub returns-then-state-ne-STATE_LEN : goal.returns-then-state-ne-STATE_LEN
-returns-then-state-ne-STATE_LEN c = let ne = c.if-state-ne-STATE_LEN.true in let r = door-length _ _ ne in
-    (r.0, (r.1, read_length _ _ ne))
+returns-then-state-ne-STATE_LEN c = 
+    let ne = c.if-state-ne-STATE_LEN.true in
+    let r = door-length _ _ ne in
+    record {
+      answer = r.0;
+      state = r.1;
+      count = read_length _ _ ne;
+    }
 
 pub returns : goal.returns
-returns c = let long = c.if-state-ne-STATE_LEN.false in let e = c.bare.ensures in let ran = c.write_run-ran.ensures in let r = door-bare _ _ _ (write-run-blind _) _ _ _ _ long e
+returns c = 
+    let long = c.if-state-ne-STATE_LEN.false in
+    let e = c.bare.ensures in
+    let ran = c.write_run-ran.ensures in
+    let r = door-bare _ _ _ (write-run-blind _) _ _ _ _ long e
     (c.told_by.ensures ∙ ap told_by ran)
     c.given.ensures.answer c.given.ensures.state in
-    (r.0, (r.1, read-bare _ _ (write-run-done-blind _) _ _ long e (ap (λ (x : Ran). x.done) ran)))
+    record {
+      answer = r.0;
+      state = r.1;
+      count = read-bare _ _ (write-run-done-blind _) _ _ long e (ap (λ (x : Ran). x.done) ran);
+    }

@@ -55,7 +55,9 @@ loop-tables-preserved c = let l = c.loop-tables in let e =
     )
 
 pub returns : goal.returns
-returns c = let l = c.loop-tables in let e = sym c.goes_on.ensures ∙ c.loop-tables-test.false in
+returns c = 
+    let l = c.loop-tables in
+    let e = sym c.goes_on.ensures ∙ c.loop-tables-test.false in
     let r =
     feed-is _ l.c l.tables l.text l.out _ (omega (arith, l.invariant.3, l.invariant.7)) l.invariant.0 _ e
     l.invariant.1 in

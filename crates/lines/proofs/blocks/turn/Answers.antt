@@ -24,15 +24,15 @@ use Rattle.lines.proofs.blocks.turn.Lts as lts
 -- LEFT     omega (arith, f.feed-line.ensures.1.1.1.1, f.before.before.before.before.before.before.before.before.before.requires.1)
 
 pub returns : goal.returns
-returns c = let a =
+returns c = 
+    let a =
     c.before.before.before.before.before.before.before.before.before.before.before.before.before.before.before.before.before.before in
-    let f = c.feed_line-fed.ensures in (
-      turn_is a.args.c _ a.args.tables.now a.args.text.now a.args.block.now a.args.out.now _ _ _
-          a.pre.0 a.pre.1 a.pre.3 f.value f.tables_after.0 f.tables_after.1.0 f.tables_after.1.1.0 f.tables_after.1.1.1,
-      (
-        turn-bounds a.args.c _ a.args.tables.now a.args.text.now a.args.block.now a.args.out.now
-            _ _ _ a.pre.0 a.pre.1 a.pre.3 f.value f.tables_after.0 f.tables_after.1.0 f.tables_after.1.1.0 f.tables_after.1.1.1,
-        turn-over a.args.c _ a.args.tables.now a.args.text.now a.args.block.now a.args.out.now _
-            _ _ a.pre.0 a.pre.1 a.pre.3 f.value f.tables_after.0 f.tables_after.1.0 f.tables_after.1.1.0 f.tables_after.1.1.1,
-      ),
-    )
+    let f = c.feed_line-fed.ensures in
+    record {
+      out_after = turn_is a.args.c _ a.args.tables.now a.args.text.now a.args.block.now a.args.out.now _ _ _
+          a.pre.0 a.pre.1 a.pre.3 f.value f.tables_after.0 f.tables_after.1.0 f.tables_after.1.1.0 f.tables_after.1.1.1;
+      used_lt_used = turn-bounds a.args.c _ a.args.tables.now a.args.text.now a.args.block.now a.args.out.now
+            _ _ _ a.pre.0 a.pre.1 a.pre.3 f.value f.tables_after.0 f.tables_after.1.0 f.tables_after.1.1.0 f.tables_after.1.1.1;
+      out_after_2 = turn-over a.args.c _ a.args.tables.now a.args.text.now a.args.block.now a.args.out.now _
+            _ _ a.pre.0 a.pre.1 a.pre.3 f.value f.tables_after.0 f.tables_after.1.0 f.tables_after.1.1.0 f.tables_after.1.1.1;
+    }

@@ -29,4 +29,8 @@ shape_of-list c = let i = c.loop-i.invariant in let long : _ = listed-long _ _ _
     search (rules, long)
 
 pub returns : goal.returns
-returns c = listed-all _ _ _ _ _ _ c.loop-i.invariant.2 (omega arith) (omega arith)
+returns c = 
+    record {
+      count = (listed-all _ _ _ _ _ _ c.loop-i.invariant.2 (omega arith) (omega arith)).0;
+      list = (listed-all _ _ _ _ _ _ c.loop-i.invariant.2 (omega arith) (omega arith)).1;
+    }

@@ -9,7 +9,12 @@ use Rattle.repair.proofs.changes.list_one.Goals as goal
 
 
 pub returns-then-old-new : goal.returns-then-old-new
-returns-then-old-new c = let e = eq-eqb _ _ c.if-old-new.true in (rw e (omega arith), rw e)
+returns-then-old-new c = 
+    let e = eq-eqb _ _ c.if-old-new.true in
+    record {
+      value = rw e (omega arith);
+      list_after = rw e;
+    }
 
 pub bounds-list-at-2 : goal.bounds-list-at-2
 bounds-list-at-2 c = simp length-set (omega arith)
@@ -18,4 +23,9 @@ pub bounds-list-at-3 : goal.bounds-list-at-3
 bounds-list-at-3 c = simp length-set (omega arith)
 
 pub returns : goal.returns
-returns c = let e = ne_eqb _ _ c.if-old-new.false in (rw e, rw e)
+returns c = 
+    let e = ne_eqb _ _ c.if-old-new.false in
+    record {
+      value = rw e;
+      list_after = rw e;
+    }

@@ -3,10 +3,6 @@ use lib.Bits.{and_le_l}
 use Rattle.repair.specs.Steps.{cleared_at}
 use borrow.Author.Rules.{rules}
 use Rattle.repair.proofs.clear.clear_word.Goals as goal
-use Rattle.repair.proofs.clear.clear_word.Lts as lts
-
--- LEFT array-read-result : lts.Need-array-read-result
--- LEFT array-read-result c = search rules
 
 pub overflow_sub-result : goal.overflow_sub-result
 overflow_sub-result c = and_le_l _ _

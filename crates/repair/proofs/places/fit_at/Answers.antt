@@ -8,7 +8,7 @@ use borrow.Author.Rules.{rules}
 use Rattle.repair.proofs.places.fit_at.Goals as goal
 
 pub fit_in-requires : goal.fit_in-requires
-fit_in-requires c = let b = fields-lt c.args.t1 c.args.n in (
+fit_in-requires c = let b = fields-lt c.args.w c.args.n in (
       search rules,
       rw c.layer_of-l.ensures b.0,
       rw c.layer_of-l.ensures b.1,

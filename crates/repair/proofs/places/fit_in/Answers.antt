@@ -10,7 +10,7 @@ returns c = rw (
       c.size_in-height.ensures.0,
       c.size_in-width.ensures.0,
       c.place_in-y.ensures.0,
-      c.IsPlace-in.ensures.0,
+      c.place_in-x.ensures.0,
       c.screen_height-down.ensures,
       c.screen_width-across.ensures,
     )

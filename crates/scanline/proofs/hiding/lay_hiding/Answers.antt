@@ -31,7 +31,7 @@ abbrev start : lts.After-struct-known → lts.Start
 start c = c.before.before.before.before.before.before.before
 
 reached : (c : goal.After-struct_known-1) → OnRow (start c).args.step (start c).args.y
-reached c = on_row_lem _ _ (sym c.is_on_row.ensures ∙ not-false _ c.if-not-is_on_row.false)
+reached c = on_row_lem _ _ (sym c.is_on_row.ensures ∙ c.if-not-is_on_row.false)
 
 room : (c : goal.After-struct_known-1)
     → (let a = (start c).args in row_start a.step a.y + 4 * a.step.wide ≤ length a.pictures.now)

@@ -10,7 +10,7 @@ use Rattle.scanline.proofs.line.layer_line.Goals as goal
 use Rattle.scanline.proofs.line.layer_line.Lts as lts
 
 pub returns-then-not-is_on_row : goal.returns-then-not-is_on_row
-returns-then-not-is_on_row c = let beside = sym c.is_on_row.ensures ∙ not-true _ c.if-not-is_on_row.true in
+returns-then-not-is_on_row c = let beside = sym c.is_on_row.ensures ∙ c.if-not-is_on_row.true in
     record { over = λ s same long m. step-beside s _ _ m _ beside }
 
 -- ---- the layer reaches the line
@@ -20,7 +20,7 @@ abbrev start : lts.Else1 → lts.Start
 start c = c.before.before.before.before.before.before.before.before.before
 
 row : (c : lts.Else-not-is_on_row) → OnRow (start c).args.step (start c).args.y
-row c = on_row_lem _ _ (sym c.is_on_row.ensures ∙ not-false _ c.if-not-is_on_row.false)
+row c = on_row_lem _ _ (sym c.is_on_row.ensures ∙ c.if-not-is_on_row.false)
 
 pub drawn_line-requires : goal.drawn_line-requires
 drawn_line-requires c = let a = (start c.before.before.before).requires in

@@ -17,7 +17,7 @@ loop-q-preserved c = let turn = c.loop-q in let i = turn.invariant in
     opaque-more _ _ i.0 (omega (arith, i.1.fits, c.requires.0)) i.1.opaque c.pixels-p.ensures
     c.repeated-q.ensures c.joined-w.ensures
     c.halves-h.ensures c.store.ensures in
-    (more, c.is_opaque_at.ensures (not-false _ c.if-not-is_opaque_at.false))
+    (more, c.is_opaque_at.ensures c.if-not-is_opaque_at.false)
 
 pub returns : goal.returns
 returns c = let turn = c.loop-q in let i = turn.invariant in

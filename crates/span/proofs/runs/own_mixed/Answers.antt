@@ -16,7 +16,7 @@ pub mixed-w-requires : goal.mixed-w-requires
 mixed-w-requires c = search (high_small, rules)
 
 pub loop-preserved : goal.loop-preserved
-loop-preserved c = (search (own-mixed, rules), omega (arith, c.is_mixed_at.ensures (not-false _ c.if-not-is_mixed_at.false), c.requires.0))
+loop-preserved c = (search (own-mixed, rules), omega (arith, c.is_mixed_at.ensures c.if-not-is_mixed_at.false, c.requires.0))
 
 pub returns : goal.returns
 returns c = record { reach = search (own-mixed, rules); some = search rules }
