@@ -75,13 +75,13 @@ drop-take (suc k) [] = refl
 drop-take (suc k) (x ∷ m) = drop-take k m
 
 pub stored-lent : (l part : List ℕ) (o : ℕ) (out : List ℕ)
-    → out ≡ take (length part) part ++ drop (length part) (take (o + length part - o) (drop o l))
+    → out ≡ over part (take (o + length part - o) (drop o l))
     → take o l ++ (out ++ drop (o + length part - o) (drop o l)) ≡ stored l o part
 unfolding stored over
 stored-lent l part o out g =
     let e : o + length part - o ≡ length part = omega arith in
     let h = rw e at g in
-    rw (e, h, drop-take (length part) (drop o l), take_all (length part) part (omega arith), append-nil part)
+    rw (e, h, drop-take (length part) (drop o l), append-nil part)
 
 -- ---- a run of puts
 

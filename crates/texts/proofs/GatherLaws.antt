@@ -8,7 +8,7 @@ use native.Mathlib.Omega.{arith}
 use lib.ListN.{length, take, drop, length-drop, length-append, drop_of_length-le}
 use lib.Seq.{length-take-le, take_all, take-length, take-append-add, drop-drop}
 use borrow.Author.Tests.{lt-ltb, le-ltb}
-use Rattle.octets.specs.Bytes.{index_of, slice}
+use Rattle.octets.specs.Bytes.{index_of}
 use Rattle.lists.specs.Over.{over}
 use Rattle.lists.specs.Choice.{choose}
 use Rattle.lists.proofs.Choice.{split}
@@ -57,15 +57,14 @@ module _ (s p : List ℕ) (held n m : ℕ) (en : n ≡ min held (length s)) (em 
       let a : length (drop n s) ≡ length s - n = length-drop n s in
       omega (arith, part-long, length-take-le (length s - n) (drop n s) (omega arith))
 
-  pub kept-over : (c : List ℕ) → c ≡ take (length (take m p)) (take m p) ++ drop (length (take m p))
-      (take (length s - n) (drop n s))
+  pub kept-over : (c : List ℕ) → c ≡ over (take m p) (take (length s - n) (drop n s))
       → take n s ++ (c ++ drop (length s - n) (drop n s)) ≡ over (kept_of (length s) (take held s) p) s
   unfolding over
   kept-over c e =
       let a : length (drop n s) ≤ length s - n = simp length-drop (omega arith) in
       let none : drop (length s - n) (drop n s) ≡ [] = drop_of_length-le (drop n s) a in
       let back : c ≡ take m p ++ drop (n + m) s =
-      e ∙ ap (λ (l : List ℕ). l ++ drop (length (take m p)) (take (length s - n) (drop n s))) (take-length (take m p))
+      e
       ∙ ap (λ (l : List ℕ). take m p ++ drop (length (take m p)) l) (take_all (length s - n) (drop n s) a)
       ∙ ap (λ (k : ℕ). take m p ++ drop k (drop n s)) part-long
       ∙ ap (λ (l : List ℕ). take m p ++ l) (drop-drop m n s) in
@@ -85,15 +84,9 @@ abbrev Gathers : List ℕ → ℕ → List ℕ → Gathered → List ℕ → Typ
 Gathers s held l g u =
     (g ≡ gathered_of s held l) × ((u ≡ over (line_with s held l) s) × ((g.kept ≤ length s) × (g.used ≤ length l)))
 
-module _ (s l u : List ℕ) (held at n : ℕ) (ea : at ≡ 0 + index_of line_feed (slice 0 (length l) l))
+module _ (s l u : List ℕ) (held at n : ℕ) (at-is : at ≡ index_of line_feed l)
     (en : n ≡ length (kept_of (length s) (take held s) (take at l))) (small : n ≤ length s)
     (eu : u ≡ over (kept_of (length s) (take held s) (take at l)) s) where
-  at-is : at ≡ index_of line_feed l
-  unfolding slice
-  at-is =
-      let q : 0 + index_of line_feed (slice 0 (length l) l) ≡ index_of line_feed (slice 0 (length l) l) = omega arith in
-      ea ∙ q ∙ ap (index_of line_feed) (take-length l)
-
   line-in : kept_of (length s) (take held s) (take at l) ≡ line_with s held l
   unfolding line_in
   line-in = ap (λ (k : ℕ). kept_of (length s) (take held s) (take k l)) at-is

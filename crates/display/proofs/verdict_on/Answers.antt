@@ -4,7 +4,7 @@ use borrow.Author.Tests.{not-true, not-false}
 use Rattle.display.proofs.verdict_on.Goals as goal
 
 pub returns-then-not-is_update : goal.returns-then-not-is_update
-returns-then-not-is_update c = rw (sym c.is_update.ensures ∙ not-true _ c.if-not-is_update.true)
+returns-then-not-is_update c = rw (sym c.is_update.ensures ∙ c.if-not-is_update.true)
 
 pub returns : goal.returns
-returns c = rw (sym c.is_update.ensures ∙ not-false _ c.if-not-is_update.false, c.refusal_of-refusal.ensures)
+returns c = rw (sym c.is_update.ensures ∙ c.if-not-is_update.false, c.refusal_of-refusal.ensures)

@@ -25,7 +25,7 @@ returns-then-not-good c = let a =
     text-bad a.state a.tables.now a.text.now _ _ _
     (omega (arith, c.if-text-gt-MOST_DIGITS.false))
     c.read_bytes-good.ensures.0
-    (not-true _ c.if-not-good.true) c.refuse-then-not-good.ensures
+    c.if-not-good.true c.refuse-then-not-good.ensures
 
 pub slice_bounds-work-end : goal.slice_bounds-work-end
 slice_bounds-work-end c = let u = c.read_bytes-good in let h : length c.args.text.now / 2 ≤ length u.new.bytes = omega (
@@ -39,7 +39,7 @@ slice_bounds-work-end c = let u = c.read_bytes-good in let h : length c.args.tex
 pub returns : goal.returns
 returns c = let a =
     c.args in
-    let u = c.read_bytes-good in let good = not-false _ c.if-not-good.false in
+    let u = c.read_bytes-good in let good = c.if-not-good.false in
     text-is a.state a.tables.now a.text.now _ _ _ _ _
     (omega (
       arith,

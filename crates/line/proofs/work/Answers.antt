@@ -13,22 +13,22 @@ refuse-requires c = reply-long c.requires.1
 
 pub returns-then-not-good : goal.returns-then-not-good
 returns-then-not-good c = let a = c.args in work-bad a.state a.tables.now a.b.now _ c.parts_of-parts.ensures.0
-    _ _ (not-true _ c.if-not-good.true) c.refuse.ensures
+    _ _ c.if-not-good.true c.refuse.ensures
 
 pub run-t-requires : goal.run-t-requires
 run-t-requires c = (
   ap (λ (q : Parts). q.writes) c.parts_of-parts.ensures.0,
   c.parts_of-parts.ensures.1,
-  writes-room _ _ c.parts_of-parts.ensures.0 (not-false _ c.if-not-good.false),
+  writes-room _ _ c.parts_of-parts.ensures.0 c.if-not-good.false,
 )
 
 pub slice_bounds-frame-count : goal.slice_bounds-frame-count
 slice_bounds-frame-count c = picture-room c.args.b.now _ c.parts_of-parts.ensures.0
-    (not-false _ c.if-not-good.false)
+    c.if-not-good.false
 
 pub slice_bounds-frame-start : goal.slice_bounds-frame-start
 slice_bounds-frame-start c = picture-room c.args.b.now _ c.parts_of-parts.ensures.0
-    (not-false _ c.if-not-good.false)
+    c.if-not-good.false
 
 pub frame-requires : goal.frame-requires
 frame-requires c = let a = c.args in (
@@ -43,5 +43,5 @@ returns c = let a =
     c.args in
     work-is a.state a.tables.now a.b.now _
     c.parts_of-parts.ensures.0 _ _ _ _ _ _
-    (not-false _ c.if-not-good.false) c.run-t.ensures
+    c.if-not-good.false c.run-t.ensures
     c.start-s.ensures refl c.frame.ensures

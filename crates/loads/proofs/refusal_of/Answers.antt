@@ -1,25 +1,18 @@
 -- `loads::refusal_of` meets its contract: each `return` is a case of `refusal_of`. Assumes nothing.
-use borrow.Author.Tests.{not-true, not-false}
-use mathlib.Core.Path.{◌≡◌, sym, ◌∙◌}
-use Rattle.tables.specs.Geometry.{tables_len}
+use mathlib.Core.Path.{sym, ◌∙◌}
 use Rattle.loads.proofs.LoadLaws.{refusal-length, refusal-none, refusal-active, refusal-passes}
 use Rattle.loads.proofs.refusal_of.Goals as goal
-use Rattle.loads.proofs.refusal_of.Lts as lts
-
--- the tables are as long as `tables_len` answers
-long : (c : lts.Else-long-whole) → c.args.long ≡ tables_len c.args.bits
-long c = c.if-long-whole.false ∙ c.tables_len-whole.ensures
 
 pub returns-then-long-whole : goal.returns-then-long-whole
 returns-then-long-whole c = refusal-length _ _ _ _ _ (λ e. c.if-long-whole.true (e ∙ sym c.tables_len-whole.ensures))
 
 pub returns-then-not-made : goal.returns-then-not-made
-returns-then-not-made c = refusal-none _ _ _ _ _ (long c.before) (not-true _ c.if-not-made.true)
+returns-then-not-made c = refusal-none _ _ _ _ _ (c.if-long-whole.false ∙ c.tables_len-whole.ensures) c.if-not-made.true
 
 pub returns-then-is_named : goal.returns-then-is_named
-returns-then-is_named c = refusal-active _ _ _ _ _ (long c.before.before.before) (not-false _ c.if-not-made.false)
+returns-then-is_named c = refusal-active _ _ _ _ _ (c.if-long-whole.false ∙ c.tables_len-whole.ensures) c.if-not-made.false
     (sym c.is_named.ensures ∙ c.if-is_named.true)
 
 pub returns : goal.returns
-returns c = refusal-passes _ _ _ _ _ (long c.before.before.before) (not-false _ c.if-not-made.false)
+returns c = refusal-passes _ _ _ _ _ (c.if-long-whole.false ∙ c.tables_len-whole.ensures) c.if-not-made.false
     (sym c.is_named.ensures ∙ c.if-is_named.false)

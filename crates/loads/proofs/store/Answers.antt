@@ -7,4 +7,4 @@ returns-then-part-eq0 c = stored-empty _ _ _ c.if-part-eq0.true
 
 pub returns : goal.returns
 returns c = rw (← c.first_byte_of.ensures.0)
-    (stored-lent _ _ _ _ c.copy.ensures.1)
+    (stored-lent _ _ _ _ c.copy.ensures)

@@ -26,7 +26,7 @@ shape_of-out-then-not-is_shown c = ap length c.lay_ground.ensures ∙ length-eac
 pub returns-then-not-is_shown : goal.returns-then-not-is_shown
 returns-then-not-is_shown c = 
     let off = sym c.is_shown.ensures
-    ∙ not-true _ c.if-not-is_shown.true in
+    ∙ c.if-not-is_shown.true in
     let r =
     part_off _ c.args.part _ _ _ _ off
     ((rw c.ground_of.ensures at c.lay_ground.ensures)
@@ -64,7 +64,7 @@ pub returns : goal.returns
 returns c = 
     let a = start c.before.before.before.before in
     let on = sym c.is_shown.ensures
-    ∙ not-false _ c.if-not-is_shown.false in
+    ∙ c.if-not-is_shown.false in
     let r =
     part-on _ _ _ _ _ _ _ on (marked c.before.before.before.before ∙ marks-is _ _ _ _ a.pre.1.low a.pre.1.high)
     (c.paint_rows.ensures.laid _

@@ -27,7 +27,7 @@ depth_is c =
     c.layer_of-layer.ensures
 
 pub returns-then-not-is_within : goal.returns-then-not-is_within
-returns-then-not-is_within c = grown-other _ _ _ _ _ _ _ (sym (depth_is c.before) ∙ not-true _ c.if-not-is_within.true)
+returns-then-not-is_within c = grown-other _ _ _ _ _ _ _ (sym (depth_is c.before) ∙ c.if-not-is_within.true)
 
 -- ---- a layer of the part's depths
 
@@ -38,7 +38,7 @@ start c = c.before.before.before.before.before.before.before
 inside : (c : lts.After-is_reached)
     → within (start c).args.part.low (start c).args.part.high (layer_of (start c).args.w.now (start c).args.n) ≡ true
 inside c =
-    sym (depth_is c.before.before.before.before) ∙ not-false _ c.if-not-is_within.false
+    sym (depth_is c.before.before.before.before) ∙ c.if-not-is_within.false
 
 mark-is : (c : lts.After-is_reached)
     → c.mark.result
@@ -62,7 +62,7 @@ lines-is c =
     c.layer_of-layer.ensures
 
 pub returns-then-not-is_reached : goal.returns-then-not-is_reached
-returns-then-not-is_reached c = grown-beside _ _ _ _ _ _ _ _ (inside c.before) (mark-is c.before) (sym (lines-is c.before) ∙ not-true _ c.if-not-is_reached.true)
+returns-then-not-is_reached c = grown-beside _ _ _ _ _ _ _ _ (inside c.before) (mark-is c.before) (sym (lines-is c.before) ∙ c.if-not-is_reached.true)
 
 pub step_of-step-requires : goal.step_of-step-requires
 step_of-step-requires c = let pre = (start c.before).requires in (
@@ -79,5 +79,5 @@ pushed-requires c = (start c.before.before).requires.4
 
 pub returns : goal.returns
 returns c = grown-taken _ _ _ _ _ _ _ _ (inside c.before.before.before) (mark-is c.before.before.before) _ _
-    (sym (lines-is c.before.before.before) ∙ not-false _ c.if-not-is_reached.false) (start c.before.before.before).requires.4 c.step_of_lem.ensures
+    (sym (lines-is c.before.before.before) ∙ c.if-not-is_reached.false) (start c.before.before.before).requires.4 c.step_of_lem.ensures
     c.pushed.ensures

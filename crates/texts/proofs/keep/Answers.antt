@@ -21,5 +21,5 @@ returns c = let n = c.least-n in let m = c.least-m in (
           (omega (arith, n.ensures)) (omega (arith, m.ensures)),
       omega (arith, n.ensures, m.ensures),
       kept-over c.args.text.now c.args.part.now c.args.held n.result m.result
-          (omega (arith, n.ensures)) (omega (arith, m.ensures)) _ c.copy.ensures.1,
+          (omega (arith, n.ensures)) (omega (arith, m.ensures)) _ c.copy.ensures,
     )

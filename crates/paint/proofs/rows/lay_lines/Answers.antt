@@ -147,7 +147,7 @@ pub loop-top-smaller : goal.loop-top-smaller
 loop-top-smaller c = omega (arith, some c.before)
 
 pub loop-top-preserved : goal.loop-top-preserved
-loop-top-preserved c = let i = c.loop-top.invariant in (omega (arith, i.0), i.1, λ e. absurd (true≢false (sym e ∙ not-true _ c.if-not-laid.true)))
+loop-top-preserved c = let i = c.loop-top.invariant in (omega (arith, i.0), i.1, λ e. absurd (true≢false (sym e ∙ c.if-not-laid.true)))
 
 -- ---- where it is found, or the first layer is laid
 
@@ -199,7 +199,7 @@ begun c =
       ap length w.12 ∙ r.kept.1.0,
     ))
     (λ w. (
-      begun-is _ _ _ _ _ _ _ _ w.4 w.3 (i.2 (not-false _ w.0.left)),
+      begun-is _ _ _ _ _ _ _ _ w.4 w.3 (i.2 (w.0.left)),
       ap length w.3,
       ap length w.2,
       ap length w.1,

@@ -12,7 +12,7 @@ use Rattle.paint.proofs.rows.put_extents.Goals as goal
 use Rattle.paint.proofs.rows.put_extents.Lts as lts
 
 pub returns-then-not-step : goal.returns-then-not-step
-returns-then-not-step c = extends-beside _ _ _ _ (not-true _ c.if-not-step.true)
+returns-then-not-step c = extends-beside _ _ _ _ c.if-not-step.true
 
 -- ---- a graphics layer
 
@@ -21,7 +21,7 @@ abbrev start : lts.Else1 → lts.Start
 start c = c.before.before.before.before
 
 banked : (c : goal.Else-not-step) → Banked (start c).args.tables.now (start c).args.step
-banked c = (start c).requires.1 (not-false _ c.if-not-step.false)
+banked c = (start c).requires.1 c.if-not-step.false
 
 few : (c : goal.Else-not-step) → (start c).args.step.end.count ≤ 48
 few c = rw (banked c).count (count_of-le _)
