@@ -80,16 +80,16 @@ module _ (bits line k : ℕ) (ne : bits ≡ 1 → ⊥) (some : 0 < bits) (few : 
 
   -- what each of the two bytes is asked with
   pub two-asked : k < 2 * bits → (line / 256 < 256) × (k < 4)
-  two-asked hk = let h = two_bytes.1 in (omega arith, omega arith)
+  two-asked hk = let h = two_bytes_lem.1 in (omega arith, omega arith)
 
   -- the first four columns are the first byte's, the others the second's
   pub marks-two : (a b : ℕ) → Fours (line / 256) k a → Fours (line % 256) k b → Marks bits line k (16 * a + b)
   unfolding pixel_of
   marks-two a b fa fb =
-      let h : line < 65536 = two_bytes.1 in
+      let h : line < 65536 = two_bytes_lem.1 in
       let low : b < 16 = fb.few in
       let high : a < 16 = fa.few in
-      rw two_bytes.0 (record {
+      rw two_bytes_lem.0 (record {
         byte = omega arith;
         at = eight (λ j. pixel_of 1 (16 * a + b) j ≡ pick (eqb (pixel_of 2 line j) k) 1 0)
             (column k (omega arith) (fa.at 0 (omega arith)) (omega arith))

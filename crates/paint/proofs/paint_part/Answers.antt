@@ -54,8 +54,12 @@ marked : (c : lts.After-plan_of-plan)
 marked c = rw c.bits_of.ensures.0 at c.plan_of-plan.ensures.errors
 
 pub paint_rows-requires : goal.paint_rows-requires
-paint_rows-requires c = let a = start c.before in
-    ((a.pre.1.long, a.pre.1.wide), part-ready _ _ _ a.pre.1.lent (planned c.before))
+paint_rows-requires c = 
+    let a = start c.before in
+    record {
+      out_len = (a.pre.1.long, a.pre.1.wide);
+      all_fit = part-ready _ _ _ a.pre.1.lent (planned c.before);
+    }
 
 pub shape_of-out : goal.shape_of-out
 shape_of-out c = c.paint_rows.auto.out

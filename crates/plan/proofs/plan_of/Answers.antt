@@ -13,7 +13,6 @@ use Rattle.words.proofs.OrderLaws.{order_of-enabled, length-order_of-le}
 use Rattle.order.proofs.PackedLaws.{packed-at}
 use Rattle.order.proofs.LayoutLaws.{held-order, held-count, held-starts}
 use Rattle.plan.proofs.plan_of.Goals as goal
-use Rattle.plan.proofs.plan_of.Lts as lts
 
 pub loop-i-init : goal.loop-i-init
 loop-i-init c = (search rules, plan-none _ _ _ _ _ _ _ c.empty-plan.ensures)
@@ -21,28 +20,25 @@ loop-i-init c = (search rules, plan-none _ _ _ _ _ _ _ c.empty-plan.ensures)
 -- ---- the held order is that of the words
 
 
-abbrev start : lts.In-loop invariant-loop decreases-loop → lts.Start invariant-loop decreases-loop
-start c = c.before.before.before.before.before.before.before
-
-few : (c : goal.In-loop-i) → c.loop-i.i < length (order_of (start c).args.w.now)
-few c = omega (arith, held-count _ _ (start c).requires.1)
+few : (c : goal.In-loop-i) → c.loop-i.i < length (order_of c.args.w.now)
+few c = omega (arith, held-count _ _ c.requires.1)
 
 layer-at : (c : goal.In-loop-i)
-    → get_or (start c).args.layout.order.layers c.loop-i.i 0
-    ≡ get_or (order_of (start c).args.w.now) c.loop-i.i 0
+    → get_or c.args.layout.order.layers c.loop-i.i 0
+    ≡ get_or (order_of c.args.w.now) c.loop-i.i 0
 layer-at c =
-    ap (λ (o : Order). get_or o.layers c.loop-i.i 0) (held-order _ _ (start c).requires.1)
-    ∙ packed-at (order_of (start c).args.w.now) c.loop-i.i (few c)
+    ap (λ (o : Order). get_or o.layers c.loop-i.i 0) (held-order _ _ c.requires.1)
+    ∙ packed-at (order_of c.args.w.now) c.loop-i.i (few c)
 
 pub bounds-layers-i : goal.bounds-layers-i
-bounds-layers-i c = omega (arith, few c, length-order_of-le (start c).args.w.now)
+bounds-layers-i c = omega (arith, few c, length-order_of-le c.args.w.now)
 
 pub with_layer-plan-requires : goal.with_layer-plan-requires
 with_layer-plan-requires c = (
-  (start c).requires.0,
+  c.requires.0,
   rw (layer-at c) (order_of-enabled _ _ (few c)).0,
-  (start c).requires.2,
-  held-starts _ _ (start c).requires.1,
+  c.requires.2,
+  held-starts _ _ c.requires.1,
   plan-room _ _ _ _ _ _ _ _ (few c) c.loop-i.invariant.1,
 )
 

@@ -26,10 +26,14 @@ laid c =
     laid-first a.fresh a.count a.step _ a.y (sym c.is_laid_first.ensures ∙ c.if-is_laid_first.true)
 
 pub lay_layer-requires : goal.lay_layer-requires
-lay_layer-requires c = let a = (start c.before.before.before).requires in
+lay_layer-requires c = 
+    let a = (start c.before.before.before).requires in
     let t = laid c.before.before.before in
     let k = whole-line _ _ _ t.2 in
-    ((k.1, omega (arith, k.0, a.0.0), a.0.1 t.1), (a.0.2 t.1, a.1 t.1))
+    record {
+      on_row = (k.1, omega (arith, k.0, a.0.0), a.0.1 t.1);
+      line_in_bounds = (a.0.2 t.1, a.1 t.1);
+    }
 
 pub returns-then-is_laid_first : goal.returns-then-is_laid_first
 returns-then-is_laid_first c = let t = laid c.before.before.before.before.before.before.before.before.before.before in

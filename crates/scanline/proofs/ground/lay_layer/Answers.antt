@@ -3,7 +3,13 @@ use Rattle.scanline.proofs.FitLaws.{row_fits}
 use Rattle.scanline.proofs.ground.lay_layer.Goals as goal
 
 pub lay_drawn-requires : goal.lay_drawn-requires
-lay_drawn-requires c = let a = c.requires in let g = c.if-step.true in ((a.0.0, a.0.1, g), a.1.1 g)
+lay_drawn-requires c = 
+    let a = c.requires in
+    let g = c.if-step.true in
+    record {
+      on_row = (a.0.0, a.0.1, g);
+      first_drawn = a.1.1 g;
+    }
 
 pub returns-then-step : goal.returns-then-step
 returns-then-step c = record {
@@ -11,8 +17,15 @@ returns-then-step c = record {
     }
 
 pub lay_floats-requires : goal.lay_floats-requires
-lay_floats-requires c = let a = c.requires in let f = c.if-step-2.true in let g = c.if-step.false in let p = a.0.2 in
-    ((a.0.0, a.0.1, g, f), (row_fits _ _ _ p.wide a.0.0 (p.flows g f), a.1.0 f))
+lay_floats-requires c = 
+    let a = c.requires in
+    let f = c.if-step-2.true in
+    let g = c.if-step.false in
+    let p = a.0.2 in
+    record {
+      on_row = (a.0.0, a.0.1, g, f);
+      row_flows = (row_fits _ _ _ p.wide a.0.0 (p.flows g f), a.1.0 f);
+    }
 
 pub returns-then-step-2 : goal.returns-then-step-2
 returns-then-step-2 c = record {
@@ -20,8 +33,15 @@ returns-then-step-2 c = record {
     }
 
 pub lay_picture-requires : goal.lay_picture-requires
-lay_picture-requires c = let a = c.requires in let f = c.if-step-2.false in let g = c.if-step.false in let p = a.0.2 in
-    ((a.0.0, a.0.1, g, f), row_fits _ _ _ p.wide a.0.0 (p.bytes g f))
+lay_picture-requires c = 
+    let a = c.requires in
+    let f = c.if-step-2.false in
+    let g = c.if-step.false in
+    let p = a.0.2 in
+    record {
+      on_row = (a.0.0, a.0.1, g, f);
+      wide_in_bounds = row_fits _ _ _ p.wide a.0.0 (p.bytes g f);
+    }
 
 pub returns : goal.returns
 returns c = record { over = λ s same long m. c.lay_picture.ensures.over s same.shows long m }

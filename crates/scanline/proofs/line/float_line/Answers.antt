@@ -30,7 +30,11 @@ pub slice_bounds-float_row-end-2 : goal.slice_bounds-float_row-end-2
 slice_bounds-float_row-end-2 c = sym (row-long c.before.before.before.before.before.before)
 
 pub float_row-requires : goal.float_row-requires
-float_row-requires c = ((c.requires.on_row.0, row-long c.before.before.before.before.before.before, c.requires.row_flows.0), (c.requires.on_row.2, c.requires.on_row.3))
+float_row-requires c = 
+    record {
+      on_row = (c.requires.on_row.0, row-long c.before.before.before.before.before.before, c.requires.row_flows.0);
+      graphics_value = (c.requires.on_row.2, c.requires.on_row.3);
+    }
 
 -- ---- the row that was made, at the front of its room
 

@@ -23,29 +23,41 @@ row : (c : lts.Else-not-is_on_row) → OnRow (start c).args.step (start c).args.
 row c = on_row_lem _ _ (sym c.is_on_row.ensures ∙ c.if-not-is_on_row.false)
 
 pub drawn_line-requires : goal.drawn_line-requires
-drawn_line-requires c = let a = (start c.before.before.before).requires in
-    let g = c.if-step.true in (
-      (row c.before.before.before, a.0.on, record { graphics = g; banked = a.0.banked g; extended = a.1.1 g }),
-      (a.1.0 (made-graphics (start c.before.before.before).args.step.layer g)).wide,
-    )
+drawn_line-requires c = 
+    let a = (start c.before.before.before).requires in
+    let g = c.if-step.true in
+    record {
+      on_row = (row c.before.before.before, a.0.on, record { graphics = g; banked = a.0.banked g; extended = a.1.1 g });
+      line_len_bound = (a.1.0 (made-graphics (start c.before.before.before).args.step.layer g)).wide;
+    }
 
 pub returns-then-step : goal.returns-then-step
 returns-then-step c = record { over = λ s same long m. c.drawn_line.ensures.over s same.draws long m }
 
 pub float_line-requires : goal.float_line-requires
-float_line-requires c = let a = (start c.before.before.before.before).requires in
-    let g = c.if-step.false in let f = c.if-step-2.true in let k = a.0.pictured in (
-      (row c.before.before.before.before, a.0.on, g, f),
-      (row_fits _ _ _ k.wide (row c.before.before.before.before) (k.flows g f), (a.1.0 (made-floats (start c.before.before.before.before).args.step.layer f)).long),
-    )
+float_line-requires c = 
+    let a = (start c.before.before.before.before).requires in
+    let g = c.if-step.false in
+    let f = c.if-step-2.true in
+    let k = a.0.pictured in
+    record {
+      on_row = (row c.before.before.before.before, a.0.on, g, f);
+      row_flows = (row_fits _ _ _ k.wide (row c.before.before.before.before) (k.flows g f), (a.1.0 (made-floats (start c.before.before.before.before).args.step.layer f)).long);
+    }
 
 pub returns-then-step-2 : goal.returns-then-step-2
 returns-then-step-2 c = record { over = λ s same long m. c.Float-line.ensures.over s same.flows long m }
 
 pub picture_line-requires : goal.picture_line-requires
-picture_line-requires c = let a = (start c.before.before.before).requires in
-    let g = c.if-step.false in let f = c.if-step-2.false in let k = a.0.pictured in
-    ((row c.before.before.before, a.0.on, g, f), row_fits _ _ _ k.wide (row c.before.before.before) (k.bytes g f))
+picture_line-requires c = 
+    let a = (start c.before.before.before).requires in
+    let g = c.if-step.false in
+    let f = c.if-step-2.false in
+    let k = a.0.pictured in
+    record {
+      on_row = (row c.before.before.before, a.0.on, g, f);
+      wide_in_bounds = row_fits _ _ _ k.wide (row c.before.before.before) (k.bytes g f);
+    }
 
 pub returns : goal.returns
 returns c = record { over = λ s same long m. c.picture_line.ensures.over s same.shows long m }
