@@ -1,7 +1,6 @@
 -- `draw_line` meets its contract: before each turn the line is as the first k instructions draw it, and one whose
 -- span has no such row leaves it so. The measure is the instructions left. Assumes nothing.
 use mathlib.Core.Path.{ap, ◌∙◌}
-use mathlib.Core.Logic.{⊎_elim}
 use Prim.Native.Nat.{◌-◌}
 use native.Mathlib.Omega.{arith}
 use lib.ListN.{length}
@@ -11,6 +10,7 @@ use Rattle.draw.proofs.IndexLaws.{count_of-le}
 use Rattle.pen.proofs.LineLaws.{line-start, line-next, line-last}
 use Rattle.pen.proofs.SpanLaws.{line-beside}
 use Rattle.pen.proofs.draw_line.Goals as goal
+use Rattle.pen.proofs.draw_line.Goals.{then-is_on, else-is_on}
 
 pub loop-k-init : goal.loop-k-init
 loop-k-init c = (
@@ -26,12 +26,11 @@ loop-k-preserved c = (
       omega arith,
       omega arith,
       line-next _ _ _ _ _ _ _ c.loop-k.invariant.2
-          (⊎_elim
-          (λ w. w.5 ∙ w.2.ensures)
-          (λ w. w.1
-          ∙ line-beside _ _ _ _ _ _ _ _ _ _ c.requires.spanned c.loop-k-test.true
-          c.is_on.ensures w.0.left)
-          c.if-is_on.branch),
+          (elim c.if-is_on.branch [
+            then-is_on w ↦ w.line-is ∙ w.draw_one.ensures
+          | else-is_on w ↦ w.line-is
+          ∙ line-beside _ _ _ _ _ _ _ _ _ _ c.requires.spanned c.loop-k-test.true c.is_on.ensures w.if-is_on.false
+          ]),
     )
 
 pub shape_of-line : goal.shape_of-line

@@ -19,33 +19,37 @@ loop-i-init c = (search rules, plan-none _ _ _ _ _ _ _ c.empty-plan.ensures)
 
 -- ---- the held order is that of the words
 
-
-few : (c : goal.In-loop-i) → c.loop-i.i < length (order_of c.args.w.now)
-few c = omega (arith, held-count _ _ c.requires.1)
-
-layer-at : (c : goal.In-loop-i)
-    → get_or c.args.layout.order.layers c.loop-i.i 0
-    ≡ get_or (order_of c.args.w.now) c.loop-i.i 0
-layer-at c =
-    ap (λ (o : Order). get_or o.layers c.loop-i.i 0) (held-order _ _ c.requires.1)
-    ∙ packed-at (order_of c.args.w.now) c.loop-i.i (few c)
-
 pub bounds-layers-i : goal.bounds-layers-i
-bounds-layers-i c = omega (arith, few c, length-order_of-le c.args.w.now)
+bounds-layers-i c =
+    let few : c.loop-i.i < length (order_of c.args.w.now) =
+    omega (arith, held-count _ _ c.requires.1) in
+    omega (arith, few, length-order_of-le c.args.w.now)
 
 pub with_layer-plan-requires : goal.with_layer-plan-requires
-with_layer-plan-requires c = (
+with_layer-plan-requires c =
+    let few : c.loop-i.i < length (order_of c.args.w.now) =
+    omega (arith, held-count _ _ c.requires.1) in
+    let layer-at : get_or c.args.layout.order.layers c.loop-i.i 0 ≡ get_or (order_of c.args.w.now) c.loop-i.i 0 =
+    ap (λ (o : Order). get_or o.layers c.loop-i.i 0) (held-order _ _ c.requires.1)
+    ∙ packed-at (order_of c.args.w.now) c.loop-i.i few in
+    (
   c.requires.0,
-  rw (layer-at c) (order_of-enabled _ _ (few c)).0,
+  rw layer-at (order_of-enabled _ _ few).0,
   c.requires.2,
   held-starts _ _ c.requires.1,
-  plan-room _ _ _ _ _ _ _ _ (few c) c.loop-i.invariant.1,
+  plan-room _ _ _ _ _ _ _ _ few c.loop-i.invariant.1,
 )
 
 pub loop-i-preserved : goal.loop-i-preserved
-loop-i-preserved c = (
+loop-i-preserved c =
+    let few : c.loop-i.i < length (order_of c.args.w.now) =
+    omega (arith, held-count _ _ c.requires.1) in
+    let layer-at : get_or c.args.layout.order.layers c.loop-i.i 0 ≡ get_or (order_of c.args.w.now) c.loop-i.i 0 =
+    ap (λ (o : Order). get_or o.layers c.loop-i.i 0) (held-order _ _ c.requires.1)
+    ∙ packed-at (order_of c.args.w.now) c.loop-i.i few in
+    (
   search rules,
-  plan-next _ _ _ _ _ _ _ _ _ _ (few c.before) (layer-at c.before)
+  plan-next _ _ _ _ _ _ _ _ _ _ few layer-at
       c.loop-i.invariant.1 c.with_layer-plan.ensures,
 )
 

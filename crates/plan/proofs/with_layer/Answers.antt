@@ -14,70 +14,74 @@ use Rattle.draw.specs.Drawing.{ended_of}
 use Rattle.frames.specs.Pixel.{bank_bytes}
 use Rattle.plan.proofs.PlanLaws.{grown-other, grown-beside, grown-taken, marked-cong}
 use Rattle.plan.proofs.with_layer.Goals as goal
-use Rattle.plan.proofs.with_layer.Lts as lts
-
--- what `is_within` answers is whether the layer is of the part's depths
-depth_is : (c : lts.After-is_within)
-    → c.is_Within.result
-    ≡ within c.args.part.low c.args.part.high
-    (layer_of c.args.w.now c.args.n)
-depth_is c =
-    c.is_Within.ensures
-    ∙ ap (within c.args.part.low c.args.part.high)
-    c.layer_of-layer.ensures
 
 pub returns-then-not-is_within : goal.returns-then-not-is_within
-returns-then-not-is_within c = grown-other _ _ _ _ _ _ _ (sym (depth_is c.before) ∙ c.if-not-is_within.true)
+returns-then-not-is_within c =
+    let depth_is : c.is_within.result ≡ within c.args.part.low c.args.part.high (layer_of c.args.w.now c.args.n) =
+    c.is_within.ensures
+    ∙ ap (within c.args.part.low c.args.part.high)
+    c.layer_of-layer.ensures in
+    grown-other _ _ _ _ _ _ _ (sym depth_is ∙ c.if-not-is_within.true)
 
 -- ---- a layer of the part's depths
 
-
-abbrev start : lts.After-is-reached → lts.Start
-start c = c.before.before.before.before.before.before.before
-
-inside : (c : lts.After-is_reached)
-    → within (start c).args.part.low (start c).args.part.high (layer_of (start c).args.w.now (start c).args.n) ≡ true
-inside c =
-    sym (depth_is c.before.before.before.before) ∙ c.if-not-is_within.false
-
-mark-is : (c : lts.After-is_reached)
-    → c.mark.result
-    ≡ marked_by (start c).args.bits (start c).args.w.now (start c).args.tables.now (start c).args.n
-    (start c).args.plan.errors
+pub returns-then-not-is_reached : goal.returns-then-not-is_reached
 unfolding marked_by
-mark-is c =
-    let a = (start c).args in
+returns-then-not-is_reached c =
+    let depth_is : c.is_within.result ≡ within c.args.part.low c.args.part.high (layer_of c.args.w.now c.args.n) =
+    c.is_within.ensures
+    ∙ ap (within c.args.part.low c.args.part.high)
+    c.layer_of-layer.ensures in
+    let inside : within c.args.part.low c.args.part.high (layer_of c.args.w.now c.args.n) ≡ true =
+    sym depth_is ∙ c.if-not-is_within.false in
+    let mark-is : c.mark.result ≡ marked_by c.args.bits c.args.w.now c.args.tables.now c.args.n c.args.plan.errors =
+    let a = c.args in
     let layer = c.layer_of-layer in let ended = ended_of (bank_bytes a.bits a.w.now a.tables.now a.n list_kind) in
     c.mark.ensures
-    ∙ marked-cong layer.result.graphics c.end_of_lem.result.found ended a.n a.plan.errors
-    (λ g. ap (λ (e : ListEnd). e.found) (c.end_of_lem.ensures g))
-    ∙ ap (λ (l : Layer). marked l.graphics ended a.n a.plan.errors) layer.ensures
-
-lines-is : (c : lts.After-is_reached)
-    → c.is_reached.result
-    ≡ reaches (start c).args.part.first (start c).args.part.count (layer_of (start c).args.w.now (start c).args.n)
-lines-is c =
+    ∙ marked-cong layer.result.graphics c.end_of-end.result.found ended a.n a.plan.errors
+    (λ g. ap (λ (e : ListEnd). e.found) (c.end_of-end.ensures g))
+    ∙ ap (λ (l : Layer). marked l.graphics ended a.n a.plan.errors) layer.ensures in
+    let lines-is : c.is_reached.result ≡ reaches c.args.part.first c.args.part.count (layer_of c.args.w.now c.args.n) =
     c.is_reached.ensures
-    ∙ ap (reaches (start c).args.part.first (start c).args.part.count)
-    c.layer_of-layer.ensures
-
-pub returns-then-not-is_reached : goal.returns-then-not-is_reached
-returns-then-not-is_reached c = grown-beside _ _ _ _ _ _ _ _ (inside c.before) (mark-is c.before) (sym (lines-is c.before) ∙ c.if-not-is_reached.true)
+    ∙ ap (reaches c.args.part.first c.args.part.count)
+    c.layer_of-layer.ensures in
+    grown-beside _ _ _ _ _ _ _ _ inside mark-is (sym lines-is ∙ c.if-not-is_reached.true)
 
 pub step_of-step-requires : goal.step_of-step-requires
-step_of-step-requires c = let pre = (start c.before).requires in (
+step_of-step-requires c =
+    let pre = c.requires in (
       pre.0,
       pre.1,
       pre.2,
       rw pre.3 (get_d-tab 8 _ _ pre.1),
-      λ g. c.end_of_lem.ensures
+      λ g. c.end_of-end.ensures
           (rw c.layer_of-layer.ensures g),
     )
 
 pub pushed-requires : goal.pushed-requires
-pushed-requires c = (start c.before.before).requires.4
+pushed-requires c =
+    c.requires.4
 
 pub returns : goal.returns
-returns c = grown-taken _ _ _ _ _ _ _ _ (inside c.before.before.before) (mark-is c.before.before.before) _ _
-    (sym (lines-is c.before.before.before) ∙ c.if-not-is_reached.false) (start c.before.before.before).requires.4 c.step_of_lem.ensures
+unfolding marked_by
+returns c =
+    let depth_is : c.is_within.result ≡ within c.args.part.low c.args.part.high (layer_of c.args.w.now c.args.n) =
+    c.is_within.ensures
+    ∙ ap (within c.args.part.low c.args.part.high)
+    c.layer_of-layer.ensures in
+    let inside : within c.args.part.low c.args.part.high (layer_of c.args.w.now c.args.n) ≡ true =
+    sym depth_is ∙ c.if-not-is_within.false in
+    let mark-is : c.mark.result ≡ marked_by c.args.bits c.args.w.now c.args.tables.now c.args.n c.args.plan.errors =
+    let a = c.args in
+    let layer = c.layer_of-layer in let ended = ended_of (bank_bytes a.bits a.w.now a.tables.now a.n list_kind) in
+    c.mark.ensures
+    ∙ marked-cong layer.result.graphics c.end_of-end.result.found ended a.n a.plan.errors
+    (λ g. ap (λ (e : ListEnd). e.found) (c.end_of-end.ensures g))
+    ∙ ap (λ (l : Layer). marked l.graphics ended a.n a.plan.errors) layer.ensures in
+    let lines-is : c.is_reached.result ≡ reaches c.args.part.first c.args.part.count (layer_of c.args.w.now c.args.n) =
+    c.is_reached.ensures
+    ∙ ap (reaches c.args.part.first c.args.part.count)
+    c.layer_of-layer.ensures in
+    grown-taken _ _ _ _ _ _ _ _ inside mark-is _ _
+    (sym lines-is ∙ c.if-not-is_reached.false) c.requires.4 c.step_of-step.ensures
     c.pushed.ensures

@@ -13,7 +13,7 @@ pub loop-k-preserved : goal.loop-k-preserved
 loop-k-preserved c = (
   omega arith,
   search rules,
-  spanned-more _ _ _ c.loop-k.invariant.2 (omega arith) c.Span-of.ensures,
+  spanned-more _ _ _ c.loop-k.invariant.2 (omega arith) c.span_of.ensures,
 )
 
 pub returns : goal.returns
