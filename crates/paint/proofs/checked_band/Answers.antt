@@ -12,29 +12,26 @@ paint_refusal-refusal-requires c = let held = c.requires in (c.bits_of-bits.ensu
 
 -- ---- what is refused, with the profile's bits
 
-
-abbrev start : lts.After-paint-refusal → lts.Start
-start c = c.before.before.before.before.before.before.before
-
 abbrev scene : lts.After-paint-refusal → Scene
 scene c =
     let a = (start c).args in scene_of a.profile a.w.now a.frame a.tables.now a.pictures.now a.floats.now
 
-refused : (c : goal.After-paint_refusal-refusal)
-    → c.paint_refusal-refusal.result ≡ refusal_of (scene c) (start c).args.low (start c).args.high (start c).args.out.now
-refused c = rw c.bits_of-bits.ensures.0 at c.paint_refusal-refusal.ensures
-
 pub paint_unless-requires : goal.paint_unless-requires
-paint_unless-requires c = (
-      (start c.before.before).requires,
+paint_unless-requires c =
+    let refused : c.paint_refusal-refusal.result ≡ refusal_of (scene c) c.args.low c.args.high c.args.out.now =
+    rw c.bits_of-bits.ensures.0 at c.paint_refusal-refusal.ensures in
+    (
+      c.requires,
       rw c.screen_height.ensures
-          (whole-asked (scene c.before.before) _ _ (start c.before.before).args.fresh _ _ (start c.before.before).args.errors (refused c.before.before)),
+          (whole-asked (scene c.before.before) _ _ c.args.fresh _ _ c.args.errors refused),
     )
 
 pub returns : goal.returns
-returns c = 
+returns c =
+    let refused : c.paint_refusal-refusal.result ≡ refusal_of (scene c) c.args.low c.args.high c.args.out.now =
+    rw c.bits_of-bits.ensures.0 at c.paint_refusal-refusal.ensures in
     let p = rw c.screen_height.ensures at c.paint_unless.ensures in
     record {
-      told = p.0 ∙ whole-told (scene c.before.before.before.before.before) _ _ (start c.before.before.before.before.before).args.fresh (start c.before.before.before.before.before).args.out.now _ _ (refused c.before.before.before.before.before);
-      output = p.1 ∙ whole-output (scene c.before.before.before.before.before) _ _ _ _ _ (start c.before.before.before.before.before).args.errors (refused c.before.before.before.before.before);
+      told = p.0 ∙ whole-told (scene c.before.before.before.before.before) _ _ c.args.fresh c.args.out.now _ _ refused;
+      output = p.1 ∙ whole-output (scene c.before.before.before.before.before) _ _ _ _ _ c.args.errors refused;
     }

@@ -12,25 +12,22 @@ line_refusal-refusal-requires c = let held = c.requires in (c.bits_of-bits.ensur
 
 -- ---- what is refused, with the profile's bits
 
-
-abbrev start : lts.After-line-refusal → lts.Start
-start c = c.before.before.before.before.before.before.before
-
 abbrev scene : lts.After-line-refusal → Scene
 scene c =
     let a = (start c).args in scene_of a.profile a.w.now a.frame a.tables.now a.pictures.now a.floats.now
 
-refused : (c : lts.After-line_refusal-refusal)
-    → c.line_refusal-refusal.result ≡ line_refusal_of (scene c) (start c).args.y (start c).args.out.now
-refused c = rw c.bits_of-bits.ensures.0 at c.line_refusal-refusal.ensures
-
 pub paint_unless-requires : goal.paint_unless-requires
-paint_unless-requires c = ((start c.before).requires, line-asked (scene c.before) _ _ _ (start c.before).args.errors (refused c.before))
+paint_unless-requires c =
+    let refused : c.line_refusal-refusal.result ≡ line_refusal_of (scene c) c.args.y c.args.out.now =
+    rw c.bits_of-bits.ensures.0 at c.line_refusal-refusal.ensures in
+    (c.requires, line-asked (scene c.before) _ _ _ c.args.errors refused)
 
 pub returns : goal.returns
-returns c = 
+returns c =
+    let refused : c.line_refusal-refusal.result ≡ line_refusal_of (scene c) c.args.y c.args.out.now =
+    rw c.bits_of-bits.ensures.0 at c.line_refusal-refusal.ensures in
     let p = c.paint_unless.ensures in
     record {
-      told = p.told ∙ line-told (scene c.before.before.before.before) _ (start c.before.before.before.before).args.out.now _ _ (refused c.before.before.before.before);
-      output = p.output ∙ line-output (scene c.before.before.before.before) _ _ _ (start c.before.before.before.before).args.errors (refused c.before.before.before.before);
+      told = p.told ∙ line-told (scene c.before.before.before.before) _ c.args.out.now _ _ refused;
+      output = p.output ∙ line-output (scene c.before.before.before.before) _ _ _ c.args.errors refused;
     }

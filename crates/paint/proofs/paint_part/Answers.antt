@@ -15,7 +15,6 @@ use Rattle.scanline.proofs.FitLaws.{part-ready}
 use Rattle.paint.proofs.GroundLaws.{ground-byte}
 use Rattle.paint.proofs.PartLaws.{part_off, part-on}
 use Rattle.paint.proofs.paint_part.Goals as goal
-use Rattle.paint.proofs.paint_part.Lts as lts
 
 pub lay_ground-requires : goal.lay_ground-requires
 lay_ground-requires c = rw c.requires.1.long (omega (arith, four c.args.part.count (width_of c.args.w.now)))
@@ -38,40 +37,35 @@ plan_of-plan-requires c = rw c.bits_of.ensures.0 (bits-few c.args.profile, c.req
 
 -- ---- the plan, with the profile's bits
 
+pub paint_rows-requires-clause-out_len : goal.paint_rows-requires-clause-out_len
+paint_rows-requires-clause-out_len c =
+    let planned : Planned (bits_of c.args.profile) c.args.w.now c.args.frame c.args.tables.now (part_layers c.args.w.now c.args.part) c.plan_of-plan.result =
+    rw c.bits_of.ensures.0 at c.plan_of-plan.ensures.layers in
+    let a = c in
+    (a.pre.1.long, a.pre.1.wide)
 
-abbrev start : lts.After-plan-of → lts.Start
-start c = c.before.before.before.before.before.before.before.before
-
-planned : (c : lts.After-plan_of-plan)
-    → Planned (bits_of (start c).args.profile) (start c).args.w.now (start c).args.frame (start c).args.tables.now
-    (part_layers (start c).args.w.now (start c).args.part) c.plan_of-plan.result
-planned c = rw c.bits_of.ensures.0 at c.plan_of-plan.ensures.layers
-
-marked : (c : lts.After-plan_of-plan)
-    → c.plan_of-plan.result.errors
-    ≡ band_marks (bits_of (start c).args.profile) (start c).args.w.now (start c).args.tables.now
-    (start c).args.part.low (start c).args.part.high (start c).args.errors
-marked c = rw c.bits_of.ensures.0 at c.plan_of-plan.ensures.errors
-
-pub paint_rows-requires : goal.paint_rows-requires
-paint_rows-requires c = 
-    let a = start c.before in
-    record {
-      out_len = (a.pre.1.long, a.pre.1.wide);
-      all_fit = part-ready _ _ _ a.pre.1.lent (planned c.before);
-    }
+pub paint_rows-requires-clause-all_fit : goal.paint_rows-requires-clause-all_fit
+paint_rows-requires-clause-all_fit c =
+    let planned : Planned (bits_of c.args.profile) c.args.w.now c.args.frame c.args.tables.now (part_layers c.args.w.now c.args.part) c.plan_of-plan.result =
+    rw c.bits_of.ensures.0 at c.plan_of-plan.ensures.layers in
+    let a = c in
+    part-ready _ _ _ a.pre.1.lent planned
 
 pub shape_of-out : goal.shape_of-out
 shape_of-out c = c.paint_rows.auto.out
 
 pub returns : goal.returns
-returns c = 
-    let a = start c.before.before.before.before in
+returns c =
+    let planned : Planned (bits_of c.args.profile) c.args.w.now c.args.frame c.args.tables.now (part_layers c.args.w.now c.args.part) c.plan_of-plan.result =
+    rw c.bits_of.ensures.0 at c.plan_of-plan.ensures.layers in
+    let marked : c.plan_of-plan.result.errors ≡ band_marks (bits_of c.args.profile) c.args.w.now c.args.tables.now c.args.part.low c.args.part.high c.args.errors =
+    rw c.bits_of.ensures.0 at c.plan_of-plan.ensures.errors in
+    let a = c in
     let on = sym c.is_shown.ensures
     ∙ c.if-not-is_shown.false in
     let r =
-    part-on _ _ _ _ _ _ _ on (marked c.before.before.before.before ∙ marks-is _ _ _ _ a.pre.1.low a.pre.1.high)
+    part-on _ _ _ _ _ _ _ on (marked ∙ marks-is _ _ _ _ a.pre.1.low a.pre.1.high)
     (c.paint_rows.ensures.laid _
     (refl, record { draws = refl; shows = refl; flows = refl })
-    (record { order = a.pre.1.low; end = a.pre.1.high; planned = planned c.before.before.before.before })) in
+    (record { order = a.pre.1.low; end = a.pre.1.high; planned = planned })) in
     record { errors = r.0; output = r.1; }

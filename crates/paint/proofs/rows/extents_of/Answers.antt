@@ -9,17 +9,23 @@ use Rattle.paint.proofs.rows.extents_of.Goals as goal
 pub loop-i-init : goal.loop-i-init
 loop-i-init c = (λ j lt. absurd (let z : ⊥ = omega arith in z), refl)
 
-few : (c : goal.In-loop-i) → c.loop-i.i < 8
-few c = omega (arith, c.loop-i-test.true, c.requires.few)
-
 pub offset_bounds-plan-i : goal.offset_bounds-plan-i
-offset_bounds-plan-i c = omega (arith, few c)
+offset_bounds-plan-i c =
+    let few : c.loop-i.i < 8 =
+    omega (arith, c.loop-i-test.true, c.requires.few) in
+    omega (arith, few)
 
 pub bounds-plan-i : goal.bounds-plan-i
-bounds-plan-i c = few c
+bounds-plan-i c =
+    let few : c.loop-i.i < 8 =
+    omega (arith, c.loop-i-test.true, c.requires.few) in
+    few
 
 pub put_extents-requires : goal.put_extents-requires
-put_extents-requires c = (omega (arith, c.loop-i.invariant.1, few c.before.before), λ g. c.requires.banked _ c.loop-i-test.true g)
+put_extents-requires c =
+    let few : c.loop-i.i < 8 =
+    omega (arith, c.loop-i-test.true, c.requires.few) in
+    (omega (arith, c.loop-i.invariant.1, few), λ g. c.requires.banked _ c.loop-i-test.true g)
 
 pub loop-i-preserved : goal.loop-i-preserved
 loop-i-preserved c = let i = c.loop-i.invariant in let x = c.put_extents.ensures in (extents-more _ _ _ c.args.t2.steps _ i.0 x, x.long ∙ i.1)

@@ -155,27 +155,32 @@ loop-top-preserved c = let i = c.loop-top.invariant in (omega (arith, i.0), i.1,
 pub overflow_add-i : goal.overflow_add-i
 overflow_add-i c = omega (arith, c.loop-top.invariant.0, (start c.before.before.before).pre.1.0.few)
 
-pub lay_first-i-requires : goal.lay_first-i-requires
-lay_first-i-requires c = 
+pub lay_first-i-requires-clause-pixel_len_len : goal.lay_first-i-requires-clause-pixel_len_len
+lay_first-i-requires-clause-pixel_len_len c =
     let i = c.loop-k.invariant in
     let fit = (start c.before.before.before.before.before.before.before.before).requires.1.0 in
     let made = (start c.before.before.before.before.before.before.before.before).requires.1.1 in
     let e = c.loop-top.invariant.1.long ∙ long c.before.before.before.before.before.before.before.before in
-    record {
-      pixel_len_len = (
+    (
         rw e (omega arith),
         λ h. (fit.fit 0 h).pictured,
         λ h f. rw e (omega (arith, i.4, (made (first-drawn fit h f)).scratch.long)),
-      );
-      first_drawn = λ h g.
+      )
+
+pub lay_first-i-requires-clause-first_drawn : goal.lay_first-i-requires-clause-first_drawn
+lay_first-i-requires-clause-first_drawn c =
+    let i = c.loop-k.invariant in
+    let fit = (start c.before.before.before.before.before.before.before.before).requires.1.0 in
+    let made = (start c.before.before.before.before.before.before.before.before).requires.1.1 in
+    let e = c.loop-top.invariant.1.long ∙ long c.before.before.before.before.before.before.before.before in
+    λ h g.
           let all = made (graphics-drawn fit 0 h g) in
           record {
             room = rw e (omega (arith, i.3, all.scratch.wide));
             banked = (fit.fit 0 h).banked g;
             extended = all.lists.extended 0 h g;
             grounded = rw c.ground_of-ground.ensures all.first;
-          };
-    }
+          }
 
 abbrev Laid : Type 0
 Laid = lts.Joined4 invariant-loop2 decreases-loop2 invariant-loop3 decreases-loop3 invariant-loop decreases-loop
@@ -237,24 +242,40 @@ bounds-plan-i c = few c.before
 pub overflow_mul-i : goal.overflow_mul-i
 overflow_mul-i c = omega (arith, few c.before.before.before.before.before)
 
-pub layer_line-requires : goal.layer_line-requires
-layer_line-requires c = 
+pub layer_line-requires-clause-fit : goal.layer_line-requires-clause-fit
+layer_line-requires-clause-fit c =
     let i = c.loop-i.invariant in
     let j = (turn c.before.before.before.before.before).before.loop.invariant in
     let a = start (turn c.before.before.before.before.before) in
     let t = c.loop-i-test.true in
     let all = begun c.before.before.before.before.before.before.before in
     let e = i.1 ∙ kept c.before.before.before.before.before.before.before in
-    record {
-      fit = rw e (a.pre.1.0.fit _ t);
-      scratch = λ g.
+    rw e (a.pre.1.0.fit _ t)
+
+pub layer_line-requires-clause-scratch : goal.layer_line-requires-clause-scratch
+layer_line-requires-clause-scratch c =
+    let i = c.loop-i.invariant in
+    let j = (turn c.before.before.before.before.before).before.loop.invariant in
+    let a = start (turn c.before.before.before.before.before) in
+    let t = c.loop-i-test.true in
+    let all = begun c.before.before.before.before.before.before.before in
+    let e = i.1 ∙ kept c.before.before.before.before.before.before.before in
+    λ g.
             let room = (a.pre.1.1 (a.pre.1.0.drawn _ t g)).scratch in
             record {
               wide = omega (arith, e, i.2, all.3, j.3, room.wide);
               long = omega (arith, e, i.3, all.2, j.4, room.long);
-            };
-      extended = λ g. (a.pre.1.1 (graphics-drawn a.pre.1.0 _ t g)).lists.extended _ t g;
-    }
+            }
+
+pub layer_line-requires-clause-extended : goal.layer_line-requires-clause-extended
+layer_line-requires-clause-extended c =
+    let i = c.loop-i.invariant in
+    let j = (turn c.before.before.before.before.before).before.loop.invariant in
+    let a = start (turn c.before.before.before.before.before) in
+    let t = c.loop-i-test.true in
+    let all = begun c.before.before.before.before.before.before.before in
+    let e = i.1 ∙ kept c.before.before.before.before.before.before.before in
+    λ g. (a.pre.1.1 (graphics-drawn a.pre.1.0 _ t g)).lists.extended _ t g
 
 pub overflow_add-i-in-loop-i : goal.overflow_add-i-in-loop-i
 overflow_add-i-in-loop-i c = record { fits = omega (arith, few c.before.before.before.before.before.before.before.before.before.before.before.before) }

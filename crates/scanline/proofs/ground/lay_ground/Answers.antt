@@ -5,8 +5,7 @@ use Rattle.scanline.proofs.GroundLaws.{ground-kept, ground-filled}
 use Rattle.scanline.proofs.ground.lay_ground.Goals as goal
 
 pub returns-then-not-fresh : goal.returns-then-not-fresh
-returns-then-not-fresh c = rw (not-true c.args.fresh c.if-not-fresh.true) (ground-kept _ _)
+returns-then-not-fresh c = rw (c.if-not-fresh.true) (ground-kept _ _)
 
 pub returns : goal.returns
-returns c = rw (not-false c.args.fresh
-    c.if-not-fresh.false) (c.fill.ensures ∙ ground-filled _ _)
+returns c = rw (c.if-not-fresh.false) (c.fill.ensures ∙ ground-filled _ _)

@@ -12,8 +12,7 @@ use Rattle.scanline.proofs.hiding.lay_opaque.Goals as goal
 pub returns-then-not-global : goal.returns-then-not-global
 returns-then-not-global c = λ e.
     let r = c.lay_if_opaque.ensures e in
-    rw (not-true c.args.global
-    c.if-not-global.true)
+    rw (c.if-not-global.true)
     (record { opaque = opaque-own _ r.0; over = r.1 ∙ ap (each _) (ground-filled _ _) ∙ over-own _ _ _ })
 
 pub returns-then-alpha-ne-OPAQUE : goal.returns-then-alpha-ne-OPAQUE
@@ -21,7 +20,6 @@ returns-then-alpha-ne-OPAQUE c = λ e. absurd (search rules)
 
 pub returns : goal.returns
 returns c = λ e. rw (
-      not-false c.args.global
-          c.if-not-global.false,
+      c.if-not-global.false,
       c.if-alpha-ne-OPAQUE.false,
     ) (record { opaque = λ u h. refl; over = c.lay_either.ensures ∙ ap (each _) (ground-filled _ _) })

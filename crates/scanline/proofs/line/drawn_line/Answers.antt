@@ -9,59 +9,66 @@ use lib.Seq.{length-take-le, length_front, take_at}
 use Rattle.plan.proofs.PartLaws.{length-lent}
 use Rattle.scanline.proofs.LineLaws.{graphics-own, step-over}
 use Rattle.scanline.proofs.line.drawn_line.Goals as goal
-use Rattle.scanline.proofs.line.drawn_line.Lts as lts
 
 -- ---- what is so of the arguments, before the code
-
-
-on : (c : lts.Start) → 4 * c.args.step.left + 4 * c.args.step.wide ≤ length c.args.line.now
-on c = c.requires.on_row.1
-
-few : (c : lts.Start) → c.args.step.wide ≤ length c.args.indexes.now
-few c = omega (arith, on c, c.requires.line_len_bound)
-
-indexes-long : (c : lts.Start) → length (take c.args.step.wide c.args.indexes.now) ≡ c.args.step.wide
-indexes-long c = length-take-le _ _ (few c)
 
 -- ---- the code
 
 
 pub slice_bounds-draw_row-end-2 : goal.slice_bounds-draw_row-end-2
-slice_bounds-draw_row-end-2 c = sym (indexes-long c.before.before.before.before.before.before.before.before)
+slice_bounds-draw_row-end-2 c =
+    let on : 4 * c.args.step.left + 4 * c.args.step.wide ≤ length c.args.line.now =
+    c.requires.on_row.1 in
+    let few : c.args.step.wide ≤ length c.args.indexes.now =
+    omega (arith, on, c.requires.line_len_bound) in
+    let indexes-long : length (take c.args.step.wide c.args.indexes.now) ≡ c.args.step.wide =
+    length-take-le _ _ few in
+    sym indexes-long
 
 -- ---- the indexes that were drawn, at the front of their room
 
-
-abbrev start : lts.After-draw-row → lts.Start
-start c = c.before.before.before.before.before.before.before.before.before
-
-abbrev wide : lts.After-draw-row → ℕ
-wide c = (start c).args.step.wide
-
-abbrev front : lts.After-draw-row → List ℕ
-front c = take (wide c) (c.draw-row.new.0 ++ drop (wide c) (start c).args.indexes.now)
-
-front-is : (c : lts.After-draw_row) → front c ≡ c.draw_row.new.indexes
-front-is c = take_at _ _ _ (c.draw_row.auto.indexes ∙ indexes-long (start c))
-
-front_long : (c : lts.After-draw_row) → length (front c) ≡ wide c
-front_long c = ap length (front-is c) ∙ c.draw_row.auto.indexes ∙ indexes-long (start c)
-
-room-long : (c : lts.After-draw_row)
-    → length (c.draw_row.new.indexes ++ drop (wide c) (start c).args.indexes.now) ≡ length (start c).args.indexes.now
-room-long c = length_front (start c).args.indexes.now c.draw_row.new.indexes (wide c) c.draw_row.auto.indexes
-
 pub slice_bounds-tint-end-3 : goal.slice_bounds-tint-end-3
-slice_bounds-tint-end-3 c = sym (front_long c.before.before.before.before)
+slice_bounds-tint-end-3 c =
+    let on : 4 * c.args.step.left + 4 * c.args.step.wide ≤ length c.args.line.now =
+    c.requires.on_row.1 in
+    let few : c.args.step.wide ≤ length c.args.indexes.now =
+    omega (arith, on, c.requires.line_len_bound) in
+    let indexes-long : length (take c.args.step.wide c.args.indexes.now) ≡ c.args.step.wide =
+    length-take-le _ _ few in
+    let front-is : (take c.args.step.wide (c.draw_row.new.indexes ++ drop c.args.step.wide c.args.indexes.now)) ≡ c.draw_row.new.indexes =
+    take_at _ _ _ (c.draw_row.auto.indexes ∙ indexes-long) in
+    let front_long : length (take c.args.step.wide (c.draw_row.new.indexes ++ drop c.args.step.wide c.args.indexes.now)) ≡ c.args.step.wide =
+    ap length front-is ∙ c.draw_row.auto.indexes ∙ indexes-long in
+    sym front_long
 
 pub tint-requires : goal.tint-requires
-tint-requires c = length-lent _ _ _ (on (start c.before.before.before.before)) ∙ ap (λ (n : ℕ). 4 * n) (sym (front_long c.before.before.before.before))
+tint-requires c =
+    let on : 4 * c.args.step.left + 4 * c.args.step.wide ≤ length c.args.line.now =
+    c.requires.on_row.1 in
+    let few : c.args.step.wide ≤ length c.args.indexes.now =
+    omega (arith, on, c.requires.line_len_bound) in
+    let indexes-long : length (take c.args.step.wide c.args.indexes.now) ≡ c.args.step.wide =
+    length-take-le _ _ few in
+    let front-is : (take c.args.step.wide (c.draw_row.new.indexes ++ drop c.args.step.wide c.args.indexes.now)) ≡ c.draw_row.new.indexes =
+    take_at _ _ _ (c.draw_row.auto.indexes ∙ indexes-long) in
+    let front_long : length (take c.args.step.wide (c.draw_row.new.indexes ++ drop c.args.step.wide c.args.indexes.now)) ≡ c.args.step.wide =
+    ap length front-is ∙ c.draw_row.auto.indexes ∙ indexes-long in
+    length-lent _ _ _ on ∙ ap (λ (n : ℕ). 4 * n) (sym front_long)
 
 pub returns : goal.returns
-returns c = let a = start c.before.before.before.before.before.before.before in
+returns c =
+    let on : 4 * c.args.step.left + 4 * c.args.step.wide ≤ length c.args.line.now =
+    c.requires.on_row.1 in
+    let few : c.args.step.wide ≤ length c.args.indexes.now =
+    omega (arith, on, c.requires.line_len_bound) in
+    let indexes-long : length (take c.args.step.wide c.args.indexes.now) ≡ c.args.step.wide =
+    length-take-le _ _ few in
+    let front-is : (take c.args.step.wide (c.draw_row.new.indexes ++ drop c.args.step.wide c.args.indexes.now)) ≡ c.draw_row.new.indexes =
+    take_at _ _ _ (c.draw_row.auto.indexes ∙ indexes-long) in
+    let a = c in
     record {
       over = λ s same line m.
-          step-over s _ _ m a.pre.0.0 _
-          (graphics-own s _ _ m _ _ (front c.before.before.before.before.before.before.before) same a.pre.0.2.graphics (front-is c.before.before.before.before.before.before.before ∙ c.draw_row.ensures) (indexes-long a))
+          step-over s _ _ m c.requires.on_row.0 _
+          (graphics-own s _ _ m _ _ (take c.args.step.wide (c.draw_row.new.indexes ++ drop c.args.step.wide c.args.indexes.now)) same c.requires.on_row.2.graphics (front-is ∙ c.draw_row.ensures) indexes-long)
           _ _ line c.tint.ensures;
     }

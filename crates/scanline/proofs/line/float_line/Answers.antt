@@ -9,74 +9,103 @@ use lib.Seq.{length-take-le, length_front}
 use Rattle.plan.proofs.PartLaws.{length-lent, length-take-append}
 use Rattle.scanline.proofs.LineLaws.{front-own, step-over}
 use Rattle.scanline.proofs.line.float_line.Goals as goal
-use Rattle.scanline.proofs.line.float_line.Lts as lts
 
 -- ---- what is so of the arguments, before the code
-
-
-on : (c : lts.Start) → 4 * c.args.step.left + 4 * c.args.step.wide ≤ length c.args.line.now
-on c = c.requires.on_row.1
-
-long : (c : lts.Start) → 4 * c.args.step.wide ≤ length c.args.row.now
-long c = omega (arith, on c, c.requires.row_flows.1)
-
-row-long : (c : lts.Start) → length (take (4 * c.args.step.wide) c.args.row.now) ≡ 4 * c.args.step.wide
-row-long c = length-take-le _ _ (long c)
 
 -- ---- the code
 
 
 pub slice_bounds-float_row-end-2 : goal.slice_bounds-float_row-end-2
-slice_bounds-float_row-end-2 c = sym (row-long c.before.before.before.before.before.before)
+slice_bounds-float_row-end-2 c =
+    let on : 4 * c.args.step.left + 4 * c.args.step.wide ≤ length c.args.line.now =
+    c.requires.on_row.1 in
+    let long : 4 * c.args.step.wide ≤ length c.args.row.now =
+    omega (arith, on, c.requires.row_flows.1) in
+    let row-long : length (take (4 * c.args.step.wide) c.args.row.now) ≡ 4 * c.args.step.wide =
+    length-take-le _ _ long in
+    sym row-long
 
-pub float_row-requires : goal.float_row-requires
-float_row-requires c = 
-    record {
-      on_row = (c.requires.on_row.0, row-long c.before.before.before.before.before.before, c.requires.row_flows.0);
-      graphics_value = (c.requires.on_row.2, c.requires.on_row.3);
-    }
+pub float_row-requires-clause-on_row : goal.float_row-requires-clause-on_row
+float_row-requires-clause-on_row c =
+    let on : 4 * c.args.step.left + 4 * c.args.step.wide ≤ length c.args.line.now =
+    c.requires.on_row.1 in
+    let long : 4 * c.args.step.wide ≤ length c.args.row.now =
+    omega (arith, on, c.requires.row_flows.1) in
+    let row-long : length (take (4 * c.args.step.wide) c.args.row.now) ≡ 4 * c.args.step.wide =
+    length-take-le _ _ long in
+    (c.requires.on_row.0, row-long, c.requires.row_flows.0)
+
+pub float_row-requires-clause-graphics_value : goal.float_row-requires-clause-graphics_value
+float_row-requires-clause-graphics_value c =
+    let on : 4 * c.args.step.left + 4 * c.args.step.wide ≤ length c.args.line.now =
+    c.requires.on_row.1 in
+    let long : 4 * c.args.step.wide ≤ length c.args.row.now =
+    omega (arith, on, c.requires.row_flows.1) in
+    let row-long : length (take (4 * c.args.step.wide) c.args.row.now) ≡ 4 * c.args.step.wide =
+    length-take-le _ _ long in
+    (c.requires.on_row.2, c.requires.on_row.3)
 
 -- ---- the row that was made, at the front of its room
 
-
-abbrev start : lts.After-float-row → lts.Start
-start c = c.before.before.before.before.before.before.before
-
-abbrev wide : lts.After-float-row → ℕ
-wide c = 4 * (start c).args.step.wide
-
-abbrev made : lts.After-float-row → List ℕ
-made c = c.float-row.new.0
-
-made-long : (c : lts.After-float_row) → length (made c) ≡ wide c
-made-long c = c.float_row.auto.row ∙ row-long (start c)
-
-room-long : (c : lts.After-float_row)
-    → length (made c ++ drop (wide c) (start c).args.row.now) ≡ length (start c).args.row.now
-room-long c = length_front (start c).args.row.now (made c) (wide c) c.float_row.auto.row
-
-front_long : (c : lts.After-float_row)
-    → length (take (wide c) (made c ++ drop (wide c) (start c).args.row.now)) ≡ wide c
-front_long c = length-take-append (made c) (drop (wide c) (start c).args.row.now) (wide c) (made-long c)
-
 pub slice_bounds-over-end-2 : goal.slice_bounds-over-end-2
-slice_bounds-over-end-2 c = omega (arith, room-long c.before.before.before, long (start c.before.before.before))
+slice_bounds-over-end-2 c =
+    let on : 4 * c.args.step.left + 4 * c.args.step.wide ≤ length c.args.line.now =
+    c.requires.on_row.1 in
+    let long : 4 * c.args.step.wide ≤ length c.args.row.now =
+    omega (arith, on, c.requires.row_flows.1) in
+    let room-long : length (c.float_row.new.row ++ drop (4 * c.args.step.wide) c.args.row.now) ≡ length c.args.row.now =
+    length_front c.args.row.now c.float_row.new.row (4 * c.args.step.wide) c.float_row.auto.row in
+    omega (arith, room-long, long)
 
 pub slice_bounds-over-end-3 : goal.slice_bounds-over-end-3
-slice_bounds-over-end-3 c = sym (front_long c.before.before.before.before)
+slice_bounds-over-end-3 c =
+    let on : 4 * c.args.step.left + 4 * c.args.step.wide ≤ length c.args.line.now =
+    c.requires.on_row.1 in
+    let long : 4 * c.args.step.wide ≤ length c.args.row.now =
+    omega (arith, on, c.requires.row_flows.1) in
+    let row-long : length (take (4 * c.args.step.wide) c.args.row.now) ≡ 4 * c.args.step.wide =
+    length-take-le _ _ long in
+    let made-long : length c.float_row.new.row ≡ (4 * c.args.step.wide) =
+    c.float_row.auto.row ∙ row-long in
+    let front_long : length (take (4 * c.args.step.wide) (c.float_row.new.row ++ drop (4 * c.args.step.wide) c.args.row.now)) ≡ (4 * c.args.step.wide) =
+    length-take-append c.float_row.new.row (drop (4 * c.args.step.wide) c.args.row.now) (4 * c.args.step.wide) made-long in
+    sym front_long
 
 pub over-requires : goal.over-requires
-over-requires c = let part = length-lent _ _ _ (on (start c.before.before.before.before)) in (part ∙ sym (front_long c.before.before.before.before), rw part (omega arith))
+over-requires c =
+    let on : 4 * c.args.step.left + 4 * c.args.step.wide ≤ length c.args.line.now =
+    c.requires.on_row.1 in
+    let long : 4 * c.args.step.wide ≤ length c.args.row.now =
+    omega (arith, on, c.requires.row_flows.1) in
+    let row-long : length (take (4 * c.args.step.wide) c.args.row.now) ≡ 4 * c.args.step.wide =
+    length-take-le _ _ long in
+    let made-long : length c.float_row.new.row ≡ (4 * c.args.step.wide) =
+    c.float_row.auto.row ∙ row-long in
+    let front_long : length (take (4 * c.args.step.wide) (c.float_row.new.row ++ drop (4 * c.args.step.wide) c.args.row.now)) ≡ (4 * c.args.step.wide) =
+    length-take-append c.float_row.new.row (drop (4 * c.args.step.wide) c.args.row.now) (4 * c.args.step.wide) made-long in
+    let part = length-lent _ _ _ on in (part ∙ sym front_long, rw part (omega arith))
 
 pub shape_of-row : goal.shape_of-row
-shape_of-row c = room-long c.before.before.before.before.before.before.before
+shape_of-row c =
+    let room-long : length (c.float_row.new.row ++ drop (4 * c.args.step.wide) c.args.row.now) ≡ length c.args.row.now =
+    length_front c.args.row.now c.float_row.new.row (4 * c.args.step.wide) c.float_row.auto.row in
+    room-long
 
 pub returns : goal.returns
-returns c = let a = start c.before.before.before.before.before.before.before in
+returns c =
+    let on : 4 * c.args.step.left + 4 * c.args.step.wide ≤ length c.args.line.now =
+    c.requires.on_row.1 in
+    let long : 4 * c.args.step.wide ≤ length c.args.row.now =
+    omega (arith, on, c.requires.row_flows.1) in
+    let row-long : length (take (4 * c.args.step.wide) c.args.row.now) ≡ 4 * c.args.step.wide =
+    length-take-le _ _ long in
+    let made-long : length c.float_row.new.row ≡ (4 * c.args.step.wide) =
+    c.float_row.auto.row ∙ row-long in
+    let a = c in
     record {
       over = λ s same line m.
-          step-over s _ _ m a.pre.0.0 _
-          (front-own s _ _ m (wide c.before.before.before.before.before.before.before) (made c.before.before.before.before.before.before.before) (drop (wide c.before.before.before.before.before.before.before) a.args.row.now) (made-long c.before.before.before.before.before.before.before)
+          step-over s _ _ m c.requires.on_row.0 _
+          (front-own s _ _ m (4 * c.args.step.wide) c.float_row.new.row (drop (4 * c.args.step.wide) a.args.row.now) made-long
           (c.float_row.ensures.own s same m))
           _ _ line c.over.ensures;
     }

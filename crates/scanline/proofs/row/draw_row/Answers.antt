@@ -4,8 +4,12 @@ use Rattle.scanline.proofs.DrawLaws.{banked-tables, banked-count, banked-indexes
 use Rattle.scanline.proofs.row.draw_row.Goals as goal
 
 pub draw_line-requires : goal.draw_line-requires
-draw_line-requires c = let a = c.requires in rw c.font_len.ensures
-    ((banked-tables _ _ a.0, banked-count _ _ a.0), extended-spans _ _ _ _ a.1)
+draw_line-requires c =
+    let a = c.requires in
+    record {
+      tables = rw c.font_len.ensures (banked-tables _ _ a.0, banked-count _ _ a.0);
+      spanned = extended-spans _ _ _ _ a.1;
+    }
 
 pub returns : goal.returns
 returns c = banked-indexes _ _ _ _ _ (rw c.font_len.ensures at c.draw_line.ensures)
