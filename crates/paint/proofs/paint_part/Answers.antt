@@ -42,14 +42,14 @@ paint_rows-requires-clause-out_len c =
     let planned : Planned (bits_of c.args.profile) c.args.w.now c.args.frame c.args.tables.now (part_layers c.args.w.now c.args.part) c.plan_of-plan.result =
     rw c.bits_of.ensures.0 at c.plan_of-plan.ensures.layers in
     let a = c in
-    (a.pre.1.long, a.pre.1.wide)
+    (a.requires.1.long, a.requires.1.wide)
 
 pub paint_rows-requires-clause-all_fit : goal.paint_rows-requires-clause-all_fit
 paint_rows-requires-clause-all_fit c =
     let planned : Planned (bits_of c.args.profile) c.args.w.now c.args.frame c.args.tables.now (part_layers c.args.w.now c.args.part) c.plan_of-plan.result =
     rw c.bits_of.ensures.0 at c.plan_of-plan.ensures.layers in
     let a = c in
-    part-ready _ _ _ a.pre.1.lent planned
+    part-ready _ _ _ a.requires.1.lent planned
 
 pub shape_of-out : goal.shape_of-out
 shape_of-out c = c.paint_rows.auto.out
@@ -64,8 +64,8 @@ returns c =
     let on = sym c.is_shown.ensures
     ∙ c.if-not-is_shown.false in
     let r =
-    part-on _ _ _ _ _ _ _ on (marked ∙ marks-is _ _ _ _ a.pre.1.low a.pre.1.high)
+    part-on _ _ _ _ _ _ _ on (marked ∙ marks-is _ _ _ _ a.requires.1.low a.requires.1.high)
     (c.paint_rows.ensures.laid _
     (refl, record { draws = refl; shows = refl; flows = refl })
-    (record { order = a.pre.1.low; end = a.pre.1.high; planned = planned })) in
+    (record { order = a.requires.1.low; end = a.requires.1.high; planned = planned })) in
     record { errors = r.0; output = r.1; }

@@ -28,7 +28,7 @@ put_extents-requires c =
     (omega (arith, c.loop-i.invariant.1, few), λ g. c.requires.banked _ c.loop-i-test.true g)
 
 pub loop-i-preserved : goal.loop-i-preserved
-loop-i-preserved c = let i = c.loop-i.invariant in let x = c.put_extents.ensures in (extents-more _ _ _ c.args.t2.steps _ i.0 x, x.long ∙ i.1)
+loop-i-preserved c = let i = c.loop-i.invariant in let x = c.put_extents.ensures in (extents-more _ _ _ c.args.plan.steps _ i.0 x, x.long ∙ i.1)
 
 pub returns : goal.returns
 returns c = record { extended = λ j lt g. c.loop-i.invariant.0 j (omega arith) g }

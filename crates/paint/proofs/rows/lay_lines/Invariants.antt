@@ -15,6 +15,7 @@ use Rattle.plan.specs.Engine.Plan.{OfPart, OfLayers}
 use Rattle.scanline.specs.Engine.Lines.{line_from, Lends, OfLine}
 use Rattle.paint.specs.Engine.Rows.{rows_byte, Holds}
 use Rattle.paint.proofs.BegunLaws.{Begun, SameGround}
+use Rattle.paint.proofs.TurnLaws.{Lines}
 use Rattle.paint.proofs.rows.lay_lines.Given as goal
 
 abbrev pub invariant-loop-top : goal.invariant-loop-top
@@ -25,8 +26,8 @@ abbrev pub decreases-loop-top : goal.decreases-loop-top
 decreases-loop-top l = l.top
 
 abbrev pub invariant-loop-i : goal.invariant-loop-i
-invariant-loop-i l = ((s : Scene) (l : List ℕ) → Lends l.tables l.pictures l.floats s → OfLine s l.initial.line → OfLayers s l l.plan
-    → each (line_from s l.y l l.i) l.line ≡ each (line_from s l.y l l.initial.i) l.initial.line)
+invariant-loop-i l = ((s : Scene) (n : List ℕ) → Lends l.tables l.pictures l.floats s → OfLine s l.initial.line → OfLayers s n l.plan
+    → each (line_from s l.y n l.i) l.line ≡ each (line_from s l.y n l.initial.i) l.initial.line)
     × (length l.line ≡ length l.initial.line) × (length l.indexes ≡ length l.initial.indexes) × (length l.row ≡ length l.initial.row)
 
 abbrev pub decreases-loop-i : goal.decreases-loop-i

@@ -5,15 +5,10 @@ use mathlib.Core.Path.{sym, ◌∙◌}
 use native.Mathlib.Omega.{arith}
 use Rattle.paint.proofs.rows.paint_rows.Goals as goal
 
-pub extents_of-extents-requires-clause-few : goal.extents_of-extents-requires-clause-few
-extents_of-extents-requires-clause-few c =
+pub extents_of-extents-requires : goal.extents_of-extents-requires
+extents_of-extents-requires c =
     let fit = c.requires.all_fit in
-    fit.few
-
-pub extents_of-extents-requires-clause-banked : goal.extents_of-extents-requires-clause-banked
-extents_of-extents-requires-clause-banked c =
-    let fit = c.requires.all_fit in
-    λ j lt. (fit.fit j lt).banked
+    record { few = fit.few; banked = λ j lt. (fit.fit j lt).banked }
 
 pub lay_lines-requires-clause-out_len : goal.lay_lines-requires-clause-out_len
 lay_lines-requires-clause-out_len c =
@@ -31,7 +26,7 @@ lay_lines-requires-clause-prepared c =
             long = omega (arith, c.pixel_room-row.ensures);
           };
           lists = c.extents_of-extents.ensures;
-          first = c.Under-first.ensures;
+          first = c.under_first-under.ensures;
         }
 
 pub lay_lines-requires-2-clause-out_len : goal.lay_lines-requires-2-clause-out_len

@@ -11,26 +11,26 @@ use Rattle.paint.proofs.ExtentLaws.{extends-beside, extends-lent}
 use Rattle.paint.proofs.rows.put_extents.Goals as goal
 
 pub returns-then-not-step : goal.returns-then-not-step
-returns-then-not-step c = extends-beside _ _ _ _ c.if-not-step.true
+returns-then-not-step c = extends-beside _ _ _ _ (not-true c.args.step.layer.graphics c.if-not-step.true)
 
 -- ---- a graphics layer
 
 pub overflow_add-list : goal.overflow_add-list
 overflow_add-list c =
     let banked : Banked c.args.tables.now c.args.step =
-    c.requires.1 c.if-not-step.false in
+    c.requires.1 (not-false c.args.step.layer.graphics c.if-not-step.false) in
     omega (arith, banked.list)
 
 pub slice_bounds-list_spans-end-2 : goal.slice_bounds-list_spans-end-2
 slice_bounds-list_spans-end-2 c =
     let banked : Banked c.args.tables.now c.args.step =
-    c.requires.1 c.if-not-step.false in
+    c.requires.1 (not-false c.args.step.layer.graphics c.if-not-step.false) in
     banked.list
 
 pub list_spans-requires : goal.list_spans-requires
 list_spans-requires c =
     let banked : Banked c.args.tables.now c.args.step =
-    c.requires.1 c.if-not-step.false in
+    c.requires.1 (not-false c.args.step.layer.graphics c.if-not-step.false) in
     let few : c.args.step.end.count ≤ 48 =
     rw banked.count (count_of-le _) in
     let k = banked in
