@@ -8,7 +8,7 @@ pub returns : goal.returns
 unfolding fill_told fill_bytes
 returns c = 
     record {
-      state = ap (told c.args.t1)
+      state = ap (told c.args.self)
       c.fill-answer.ensures.answer;
       output = c.fill-answer.ensures.output;
     }

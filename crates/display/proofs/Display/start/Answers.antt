@@ -6,8 +6,8 @@ use Rattle.display.proofs.Display.start.Goals as goal
 
 pub returns-then-not-verdict : goal.returns-then-not-verdict
 returns-then-not-verdict c = start-stays c.args.self _ c.wrapping_add_u32-next.ensures.value _
-    c.verdict_on-verdict.ensures c.if-not-verdict.true
+    c.verdict_on-verdict.ensures (not-true c.verdict_on-verdict.result.passes c.if-not-verdict.true)
 
 pub returns : goal.returns
 returns c = start-copies c.args.self _ c.wrapping_add_u32-next.ensures.value _
-    c.verdict_on-verdict.ensures c.if-not-verdict.false _ c.layout_of-layout.ensures
+    c.verdict_on-verdict.ensures (not-false c.verdict_on-verdict.result.passes c.if-not-verdict.false) _ c.layout_of-layout.ensures

@@ -11,7 +11,12 @@ pub returns-then-state-ne-STATE_LEN : goal.returns-then-state-ne-STATE_LEN
 returns-then-state-ne-STATE_LEN c = 
     let ne = c.if-state-ne-STATE_LEN.true in
     let r = door-length _ _ ne in
-    (r.0, (r.1, (buffer-length _ _ _ ne, read_length _ _ ne)))
+    record {
+      answer = r.0;
+      state = r.1;
+      tables = buffer-length _ _ _ ne;
+      count = read_length _ _ ne;
+    }
 
 pub returns : goal.returns
 returns c = 
@@ -23,4 +28,9 @@ returns c =
     c.given.ensures.answer c.given.ensures.state in
     let count = ap (λ (x : Ran). x.done) ran.state in
     let left = buffer-bare _ _ _ (put-run-tables-blind _ _) _ _ long e ran.tables in
-    (r.0, (r.1, (left, read-bare _ _ (put-run-done-blind _ _) _ _ long e count)))
+    record {
+      answer = r.0;
+      state = r.1;
+      tables = left;
+      count = read-bare _ _ (put-run-done-blind _ _) _ _ long e count;
+    }
