@@ -8,7 +8,7 @@ use Rattle.steps.proofs.writes.Given as goal
 
 abbrev pub invariant-loop-left : goal.invariant-loop-left
 invariant-loop-left l = (l.at + 5 * l.left ≤ l.from + 5 * l.n)
-    × ((l : List ℕ) → run_of (midway l.t l) (writes_at l.left l.b l.at) ≡ run_of (midway l.initial.t l) (writes_at l.n l.b l.from))
+    × ((m : List ℕ) → run_of (midway l.t m) (writes_at l.left l.b l.at) ≡ run_of (midway l.initial.t m) (writes_at l.n l.b l.from))
 
 abbrev pub decreases-loop-left : goal.decreases-loop-left
 decreases-loop-left l = l.left
