@@ -83,8 +83,8 @@ reply-long e = ap length e ∙ length-zeros most_reply
 
 pub head-is : (d : Display) (e w h : ℕ) (o u : List ℕ) → e ≡ d.errors → w ≡ width_of d.active
     → h ≡ height_of d.active
-    → u ≡ (0 ∷ e / 16777216 % 256 ∷ e / 65536 % 256 ∷ e / 256 % 256 ∷ e % 256
-    ∷ w / 256 % 256 ∷ w % 256 ∷ h / 256 % 256 ∷ h % 256 ∷ []) ++ drop head_len o
+    → u ≡ over (0 ∷ e / 16777216 % 256 ∷ e / 65536 % 256 ∷ e / 256 % 256 ∷ e % 256
+    ∷ w / 256 % 256 ∷ w % 256 ∷ h / 256 % 256 ∷ h % 256 ∷ []) o
     → u ≡ over (done ∷ head_of d) o
 unfolding over
 head-is d e w h o u ee ew eh q = q ∙ rw (ee, ew, eh) refl

@@ -7,4 +7,4 @@ pub returns : goal.returns
 returns c = let a = c.args in head-is a.state _ _ _ a.reply.now _
     c.error_word-e.ensures
     c.output_width-w.ensures
-    c.output_height-h.ensures c.copy.ensures.1
+    c.output_height-h.ensures c.copy.ensures
