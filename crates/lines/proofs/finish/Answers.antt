@@ -5,4 +5,9 @@ use Rattle.lines.proofs.finish.Goals as goal
 pub returns : goal.returns
 returns c = 
     let e = c.finish_in.ensures in
-    (e.value, (e.tables_after.0, (e.tables_after.1.0, omega (arith, e.tables_after.1.1))))
+    record {
+      printed = e.value;
+      tables = e.tables_after;
+      output = e.out_after;
+      fits = omega (arith, e.count_le_most_printed);
+    }

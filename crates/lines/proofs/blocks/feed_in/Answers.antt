@@ -33,7 +33,7 @@ turn-c-requires c = let i = c.loop-tables.invariant in let b =
     (b.0, b.1, i.6, i.7, i.8)
 
 pub loop-tables-smaller : goal.loop-tables-smaller
-loop-tables-smaller c = let t = c.turn-c.ensures in omega (arith, t.used_lt_used.0.0, t.used_lt_used.0.1)
+loop-tables-smaller c = let t = c.turn-c.ensures in omega (arith, t.used_lt_used.0, t.used_lt_used.1)
 
 pub loop-tables-preserved : goal.loop-tables-preserved
 loop-tables-preserved c = let l = c.loop-tables in let e =
@@ -41,12 +41,12 @@ loop-tables-preserved c = let l = c.loop-tables in let e =
     ∙ c.loop-tables-test.true in
     let t = c.turn-c in (
       feed-turn _ l.c l.tables l.text l.out _ (omega (arith, l.invariant.3, l.invariant.7)) l.invariant.0 t.result
-          t.new.tables t.new.text t.new.out e t.ensures.out_after t.ensures.used_lt_used.0.0,
-      over-over _ l.out t.new.out _ t.result.count t.ensures.used_lt_used.0.2
-          (omega (arith, t.ensures.used_lt_used.0.3, l.invariant.7)) l.invariant.1 t.ensures.used_lt_used.1 t.auto.out,
-      t.ensures.used_lt_used.0.1,
-      t.ensures.used_lt_used.0.3,
-      (λ z. omega (arith, t.ensures.used_lt_used.0.0)),
+          t.new.tables t.new.text t.new.out e t.ensures.out_after t.ensures.used_lt_used.0,
+      over-over _ l.out t.new.out _ t.result.count t.ensures.used_lt_used.2
+          (omega (arith, t.ensures.used_lt_used.3, l.invariant.7)) l.invariant.1 t.ensures.out_after_2 t.auto.out,
+      t.ensures.used_lt_used.1,
+      t.ensures.used_lt_used.3,
+      (λ z. omega (arith, t.ensures.used_lt_used.0)),
       search rules,
       search rules,
       search rules,
@@ -61,4 +61,10 @@ returns c =
     let r =
     feed-is _ l.c l.tables l.text l.out _ (omega (arith, l.invariant.3, l.invariant.7)) l.invariant.0 _ e
     l.invariant.1 in
-    (r.0, (r.1.0, (r.1.1.0, (r.1.1.1, ((λ h. goes_on-first _ _ _ e l.invariant.4 h), l.invariant.2, l.invariant.3)))))
+    record {
+      value = r.0;
+      tables_after = r.1.0;
+      text_after = r.1.1.0;
+      out_after = r.1.1.1;
+      used_nonzero = ((λ h. goes_on-first _ _ _ e l.invariant.4 h), l.invariant.2, l.invariant.3);
+    }

@@ -17,11 +17,10 @@ slice_bounds-run_in-end c = sym (length-take-le _ c.args.text.now (omega (arith,
 
 pub returns : goal.returns
 returns c = 
-    let a =
-    c.before.before.before.before.before.before.before.before.before.before.before.before.before.before in
+    let a = c.args in
     let r =
-    finish-some a.args.going a.args.tables.now a.args.text.now _ a.pre.0
+    finish-some a.going a.tables.now a.text.now _ c.requires.0
     (omega (arith, c.least-n.ensures)) _ _ _
     _ c.if-n-eq0.false
-    c.run_in.ensures in
+    (let f = c.run_in.ensures in (f.value, (f.tables_after, (f.out_after, f.count_le_most_printed)))) in
     record { value = r.0; tables_after = r.1.0; out_after = r.1.1.0; count_le_most_printed = r.1.1.1; }
