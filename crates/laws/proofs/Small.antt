@@ -8,7 +8,7 @@ use native.Mathlib.Omega.{arith}
 use borrow.Author.Tests.{eq-eqb, ne_eqb}
 use lib.ListN.{length, get_or, length-replicate, get_or-replicate}
 use lib.Seq.{take_at, take_all}
-use Rattle.octets.specs.Bytes.{index_of}
+use Rattle.octets.specs.Bytes.{index_of, index_after}
 use Rattle.lists.proofs.Call.{pair_is, tied-meets}
 use Rattle.lists.specs.Over.{over}
 use Rattle.lists.specs.Runs.{first_of, sum_of, run}
@@ -72,8 +72,9 @@ line_open = tt
 -- ---- the states come to be
 
 written_to-reached : {d : Display} → Reached d → (l : List Write) → Reached (written_to d l)
-written_to-reached r [] = r
-written_to-reached r (w ∷ rest) = written_to-reached (by-write w.register w.value r) rest
+written_to-reached {d = d} r [] = r
+written_to-reached {d = d} r (w ∷ rest) =
+    written_to-reached {d = (write_of d w.register w.value).state} (by-write w.register w.value r) rest
 
 pub written-reached : (ground : ℕ) → Reached (written ground)
 written-reached ground = written_to-reached (by-new 1 false) (one_pixel ground)
@@ -271,19 +272,19 @@ abbrev Fed : List ℕ → Type 0
 Fed pictures = (feed_of begun blank (slate []) (block pictures)).printed ≡ (line_of first blank (line pictures)).printed
 
 pub feed-white : Fed white
-unfolding feed_of turns_of goes_on turn_of next_run fed_run line_in ends_in index_of over digits_of digit_of
+unfolding feed_of turns_of goes_on turn_of next_run fed_run line_in ends_in index_of index_after over digits_of digit_of
 feed-white = refl
 
 pub feed-clear : Fed clear
-unfolding feed_of turns_of goes_on turn_of next_run fed_run line_in ends_in index_of over digits_of digit_of
+unfolding feed_of turns_of goes_on turn_of next_run fed_run line_in ends_in index_of index_after over digits_of digit_of
 feed-clear = refl
 
 pub feed-dim : Fed dim
-unfolding feed_of turns_of goes_on turn_of next_run fed_run line_in ends_in index_of over digits_of digit_of
+unfolding feed_of turns_of goes_on turn_of next_run fed_run line_in ends_in index_of index_after over digits_of digit_of
 feed-dim = refl
 
 pub feed-bright : Fed bright
-unfolding feed_of turns_of goes_on turn_of next_run fed_run line_in ends_in index_of over digits_of digit_of
+unfolding feed_of turns_of goes_on turn_of next_run fed_run line_in ends_in index_of index_after over digits_of digit_of
 feed-bright = refl
 
 -- ---- the output that meets a call's contract is the promised one

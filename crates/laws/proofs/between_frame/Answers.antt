@@ -4,7 +4,8 @@ use Rattle.laws.proofs.Calls.{between-frame}
 use Rattle.laws.proofs.between_frame.Goals as goal
 
 pub returns : goal.returns
-returns c = rw c.frame.ensures.output
+returns c framing =
+    rw c.frame.ensures.output
     (between-frame _ _ _ _ _ framing
-    (λ i. (c.shared_slice_known-1.given i).fits)
-    (λ i. (c.shared_slice_known-2-1.given i).fits))
+    (λ i. (c.type_inv.tables i).fits)
+    (λ i. (c.type_inv.pictures i).fits))

@@ -4,7 +4,8 @@ use Rattle.laws.proofs.Calls.{between-host}
 use Rattle.laws.proofs.between_host.Goals as goal
 
 pub returns : goal.returns
-returns c = rw c.spoonwing_frame.ensures.output
+returns c hosting =
+    rw c.spoonwing_frame.ensures.output
     (between-host _ _ _ _ _ hosting
-    (λ i. (c.shared_slice_known-2-1.given i).fits)
-    (λ i. (c.shared_slice_known-3-1.given i).fits))
+    (λ i. (c.type_inv.tables i).fits)
+    (λ i. (c.type_inv.pictures i).fits))
