@@ -1,6 +1,7 @@
 // The numbers that calls answer, by name: 01 "Answers by number", and those of 02. A refusal leaves what
 // its row there says.
 #![tactic(auto)]
+
 ghost use Rattle.std.specs.Prelude.{◌≡◌};
 ghost use Rattle.lists.specs.Choice.{or_else};
 

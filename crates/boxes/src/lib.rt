@@ -1,5 +1,6 @@
 // A box of an instruction, on one line: a row of it, as one run or as one at each side.
 #![tactic(auto)]
+
 ghost use Rattle.std.specs.Prelude.{◌≡◌, ◌≤◌, ◌<◌, length};
 ghost use Rattle.lists.specs.Tab.{each};
 ghost use Rattle.tables.specs.Geometry.{instructions, list_len};

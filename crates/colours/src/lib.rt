@@ -1,6 +1,7 @@
 // Colour indexes as pixels, and a row of one colour. Each is one function with one contract, so that its
 // inside can be made faster and nothing above it is proved again. Nothing here knows of layers or frames.
 #![tactic(auto)]
+
 ghost use Rattle.std.specs.Prelude.{◌≡◌, ◌*◌, ◌%◌, length};
 ghost use Rattle.lists.specs.Tab.{tab};
 ghost use Rattle.mix.specs.Pixel.{pixel_len};

@@ -1,12 +1,11 @@
 -- A run of puts comes to the part of it that fits, and a run of writes to the pending words alone. Assumes nothing.
-use Rattle.std.proofs.Common.{◌≡◌, ℕ, suc, ◌+◌, ◌*◌, ◌^◌, ◌<◌, ◌≤◌, Bool, true, false, eqb, ltb, List, [], ◌∷◌, length, set, sym, refl, ap, ◌∙◌, ap₂, ⊎_elim, arith, length-set, le-ltb, lt-ltb, eq-eqb, ne_eqb}
+use Rattle.std.proofs.Common.{◌≡◌, ℕ, ◌+◌, ◌*◌, ◌^◌, ◌<◌, ◌≤◌, Bool, true, false, eqb, ltb, List, [], ◌∷◌, length, set, sym, refl, ap, ◌∙◌, ap₂, ⊎_elim, arith, length-set, le-ltb, lt-ltb, ne_eqb}
 use lib.Bits.{bit_or}
 use Rattle.lists.specs.Choice.{pick, choose, or_else}
 use Rattle.lists.proofs.Choice.{split, same_or}
 use Rattle.answers.specs.Answers.{done, no_register, not_selected, bank_active, bank_full, tables_length}
 use Rattle.tables.specs.Geometry.{tables_len}
 use Rattle.tables.specs.Selection.{controller_of, end_of, first_byte_of, named_by}
-use Rattle.tables.specs.declared.Selection.{Selection}
 use Rattle.runs.specs.Run.{One, one, Many, many, after, run_of}
 use Rattle.runs.specs.Writes.{Write, writes_in}
 use Rattle.runs.proofs.RunLaws.{run_none, run-goes, run-stops, run-one, run-map}
@@ -17,7 +16,7 @@ use Rattle.loads.proofs.LoadLaws.{stored-none, load-empty, load-refused, load_fu
 use Rattle.display.specs.declared.Display.{Display}
 use Rattle.display.specs.declared.Told.{Told}
 use Rattle.display.specs.declared.Ran.{Ran}
-use Rattle.display.specs.State.{bits_in, told, with_errors, with_place, with_pending, write_of}
+use Rattle.display.specs.State.{bits_in, told, with_errors, with_place, with_pending}
 use Rattle.display.specs.Put.{put_answer, put_state, put_of, put_tables}
 use Rattle.display.specs.Runs.{ran, told_by, Lent, lent, put_one, puts, put_run_of, put_run_tables, write_one, writes}
 use Rattle.display.specs.Runs.{write_run_of}

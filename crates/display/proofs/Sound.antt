@@ -1,8 +1,8 @@
 -- Every state that comes to be is sound: the fresh one is, and every call keeps it.
 -- Assumes nothing.
-use Rattle.std.proofs.Common.{◌≡◌, ℕ, ◌<◌, Bool, true, false, eqb, ltb, List, length, refl, ◌∙◌, inl, inr, arith, length-set, ltb-true, eqb-true}
+use Rattle.std.proofs.Common.{◌≡◌, ℕ, ◌<◌, Bool, eqb, ltb, List, length, refl, ◌∙◌, inl, inr, arith, length-set, ltb-true, eqb-true}
 use lib.Ieee.{Float}
-use Rattle.lists.specs.Choice.{pick, choose}
+use Rattle.lists.specs.Choice.{pick}
 use Rattle.answers.specs.Answers.{done, not_selected, bank_active, bank_full, tables_length}
 use Rattle.profiles.specs.declared.Profile.{Profile}
 use Rattle.profiles.specs.Profile.{one_bit, two_bits}

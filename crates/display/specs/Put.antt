@@ -1,6 +1,6 @@
 -- What put answers and leaves, in the state and in the tables: 01 "Tables", "Answers by number", with the geometry of the
 -- state's bits a glyph pixel. Assumes nothing.
-use Rattle.std.specs.Prelude.{ℕ, ◌+◌, ◌*◌, ◌^◌, List, length, set, ◌==◌, bit_or, nat_lt, slice_set}
+use Rattle.std.specs.Prelude.{ℕ, ◌+◌, ◌*◌, ◌^◌, List, length, ◌==◌, bit_or, nat_lt, slice_set}
 use Rattle.lists.specs.Choice.{pick, choose, or_else}
 use Rattle.answers.specs.Answers.{done, not_selected, bank_active, bank_full, tables_length}
 use Rattle.tables.specs.Geometry.{tables_len}

@@ -1,6 +1,6 @@
 -- The state, and what new, write, select, toggle and start answer and leave: 01 "What the display is made
 -- of", "Registers", "Answers by number", 02 K2, K5, K7. Assumes nothing.
-use Rattle.std.specs.Prelude.{ℕ, ◌+◌, ◌%◌, ◌^◌, Bool, true, false, List, set, replicate, ◌==◌, bit_xor, nat_lt, slice_set}
+use Rattle.std.specs.Prelude.{ℕ, ◌+◌, ◌%◌, ◌^◌, Bool, true, false, List, replicate, ◌==◌, bit_xor, nat_lt, slice_set}
 use Rattle.lists.specs.Choice.{choose}
 use Rattle.answers.specs.Answers.{done, no_register, no_selection, glyph_bits}
 use Rattle.profiles.specs.declared.Profile.{Profile}

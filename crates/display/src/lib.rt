@@ -1,6 +1,7 @@
 // The display's state and its calls. Each call takes the state and hands it back with an answer, and
 // a refusal leaves what the answer's row in `answers` says.
 #![tactic(auto)]
+
 ghost use Rattle.std.specs.Prelude.{◌≡◌};
 ghost use Rattle.profiles.specs.Profile.{profile_of};
 ghost use Rattle.words.specs.Fields.{width_of, height_of};

@@ -1,6 +1,7 @@
 // A graphics layer's instruction list: its instructions' words, where it ends, and a run of one colour in a
 // line. What a list draws is defined in `specs/`; the crates above draw it.
 #![tactic(auto)]
+
 ghost use Rattle.std.specs.Prelude.{◌≡◌, length};
 ghost use Rattle.tables.specs.Geometry.{list_len};
 ghost use Rattle.draw.specs.Drawing.{list_end};

@@ -1,5 +1,5 @@
 -- A line of a whole frame, and what passes. Assumes nothing.
-use mathlib.Core.Path.{◌≡◌, refl, sym, ap, ◌∙◌}
+use mathlib.Core.Path.{◌≡◌, ap, ◌∙◌}
 use mathlib.Core.Bool.{Bool, true, false}
 use mathlib.Core.List.{List}
 use Prim.Native.Nat.{ℕ, ◌+◌, ◌*◌, ◌%◌, ◌≤◌, ◌<◌}
@@ -12,7 +12,7 @@ use Rattle.lists.specs.Choice.{pick, choose}
 use Rattle.lists.specs.Tab.{tab, each}
 use Rattle.lists.proofs.Choice.{lets-through, or_else-left, or_else-right}
 use Rattle.lists.proofs.Digits.{row_room}
-use Rattle.lists.proofs.Tab.{length-tab, get_d-tab, get_d-each, length_part, get_d_part, is-tab}
+use Rattle.lists.proofs.Tab.{length-tab, get_d-tab, get_d-each, length_part, get_d_part}
 use Rattle.words.specs.Fields.{shown_of, width_of, height_of}
 use Rattle.words.specs.Pictures.{pictures_len}
 use Rattle.tables.specs.Geometry.{tables_len}

@@ -1,5 +1,6 @@
 // The one entry for a C host: a whole frame from a register image, with no state between calls.
 #![tactic(auto)]
+
 ghost use Rattle.std.specs.Prelude.{◌≡◌};
 ghost use Rattle.host.specs.Host.{profile_for, host_answer, host_output};
 

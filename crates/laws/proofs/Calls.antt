@@ -3,7 +3,7 @@
 use mathlib.Core.Path.{◌≡◌, sym, ap, ◌∙◌}
 use mathlib.Core.Bool.{true, false}
 use mathlib.Core.List.{List, []}
-use Prim.Native.Nat.{ℕ, ◌≤◌, ◌<◌}
+use Prim.Native.Nat.{ℕ, ◌<◌}
 use native.Mathlib.Omega.{arith}
 use borrow.Author.Tests.{eq-eqb}
 use lib.Ieee.{Float}
@@ -21,7 +21,7 @@ use Rattle.display.specs.State.{with_active}
 use Rattle.display.specs.Paint.{scene_with, frame_bytes}
 use Rattle.words.specs.Image.{words_of}
 use Rattle.host.specs.Host.{profile_for, scene_in, host_answer, host_output}
-use Rattle.laws.specs.Painting.{Ready, Framing, Hosting, OnScreen, channel_in, channel_at, Neighbours, exchanged}
+use Rattle.laws.specs.Painting.{Framing, Hosting, OnScreen, channel_in, channel_at, Neighbours, exchanged}
 use Rattle.laws.specs.Painting.{OpaqueAt, OtherUnder, Clear, without_picture, without, AreBytes}
 use Rattle.laws.specs.Painting.{Between}
 use Rattle.laws.proofs.FloatLaws.{cut-none}

@@ -1,22 +1,19 @@
 -- With one bit a glyph pixel every definition is what document 01 has: the tables' numbers, a text, a layer's pixel.
 -- No other definition asks for the number of bits but through these. Assumes nothing.
-use mathlib.Core.Path.{◌≡◌, refl, sym, ap, ap₂, ◌∙◌}
-use mathlib.Core.Logic.{⊎_elim}
+use mathlib.Core.Path.{◌≡◌, refl, ap, ◌∙◌}
 use mathlib.Core.List.{List}
-use Prim.Native.Nat.{ℕ, zero, suc, ◌+◌, ◌-◌, ◌*◌, ◌/◌, ◌%◌, ◌^◌, ◌<◌}
+use Prim.Native.Nat.{ℕ, zero, suc, ◌+◌, ◌-◌, ◌*◌, ◌%◌, ◌<◌}
 use native.Mathlib.Nat.{one-mul, mod-eq_of_lt}
 use native.Mathlib.Omega.{arith}
-use borrow.Author.Tests.{eq-eqb, ne_eqb}
-use lib.Dec.{eqb, leb, ltb}
+use lib.Dec.{leb}
 use lib.ListN.{get_or}
 use Rattle.lists.specs.Choice.{pick, both}
-use Rattle.lists.proofs.Choice.{same_or}
 use Rattle.tables.specs.Geometry.{tables_len, bank_len, kind_at, kind_len, bank_at}
-use Rattle.draw.specs.Instruction.{opcode, text_colour}
+use Rattle.draw.specs.Instruction.{text_colour}
 use Rattle.draw.specs.Box.{box_of}
-use Rattle.draw.specs.Text.{character, characters_of, bytes_from, glyph_row, pixel_of, inked, line_ink, row_after, string_ink}
+use Rattle.draw.specs.Text.{bytes_from, glyph_row, pixel_of, inked, line_ink, row_after, string_ink}
 use Rattle.draw.specs.Text.{text_after, text_of}
-use Rattle.draw.specs.Drawing.{drawn_by, drawn_to, count_of, index_at}
+use Rattle.draw.specs.Drawing.{drawn_by, drawn_to, index_at}
 use Rattle.frames.specs.Pixel.{bank_bytes, colour_index, graphics_at}
 use Rattle.laws.specs.OneBit.{bank_at01, kind_len01, table01, glyph01, pixel01, inked01, text_of01, drawn_by01}
 use Rattle.laws.specs.OneBit.{drawn_to01, index01, graphics01}

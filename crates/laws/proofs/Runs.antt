@@ -9,8 +9,8 @@ use Rattle.lists.specs.Little.{little_at}
 use Rattle.answers.specs.Answers.{done, tables_length}
 use Rattle.tables.specs.Geometry.{tables_len}
 use Rattle.runs.specs.Run.{Many, StopsAt}
-use Rattle.runs.specs.Writes.{Write, writes_in}
-use Rattle.runs.proofs.RunLaws.{Each, each-any, run_none, run-stops, run-one, run-append, run-all, run-keeps, run_at}
+use Rattle.runs.specs.Writes.{writes_in}
+use Rattle.runs.proofs.RunLaws.{each-any, run_none, run-stops, run-one, run-append, run-all, run-keeps, run_at}
 use Rattle.runs.proofs.WriteLaws.{length-writes, writes_short, writes_one, writes-append}
 use Rattle.display.specs.declared.Display.{Display}
 use Rattle.display.specs.declared.Told.{Told}

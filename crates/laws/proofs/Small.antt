@@ -3,7 +3,7 @@
 use Prim.Native.Nat.{ℕ, ◌<◌}
 use mathlib.Core.Path.{◌≡◌, refl, sym, ap, ◌∙◌}
 use mathlib.Core.Bool.{false}
-use mathlib.Core.List.{List, [], ◌∷◌, ◌++◌}
+use mathlib.Core.List.{List, [], ◌∷◌}
 use native.Mathlib.Omega.{arith}
 use borrow.Author.Tests.{eq-eqb, ne_eqb}
 use lib.ListN.{length, get_or, length-replicate, get_or-replicate}
@@ -39,7 +39,7 @@ use Rattle.texts.specs.Lines.{ends_in, line_in}
 use Rattle.texts.specs.Replies.{reply_text}
 use Rattle.steps.specs.Form.{count_at, word_at, past_loads, writes_place, picture_place, end_place, is_formed}
 use Rattle.steps.specs.Steps.{step_of, run_of, loads_at, writes_at, steps_of}
-use Rattle.line.specs.Line.{started_of, zeros, lent_of, framed_of, painted_of, head_of, reply_of, closed_of, work_of, done_of}
+use Rattle.line.specs.Line.{started_of, zeros, lent_of, framed_of, painted_of, reply_of, closed_of, work_of, done_of}
 use Rattle.line.specs.Line.{outcome_of, line_of}
 use Rattle.line.specs.Sizes.{most_printed}
 use Rattle.lines.specs.Sizes.{out_len}

@@ -9,7 +9,7 @@ use native.Mathlib.Omega.{arith}
 use borrow.Author.Tests.{ne_eqb, lt-ltb}
 use lib.Dec.{eqb, ltb}
 use lib.Ieee.{of_bits}
-use lib.ListN.{length, get_or, replicate, length-append, length-replicate}
+use lib.ListN.{length, replicate, length-append, length-replicate}
 use lib.Seq.{get_or-append-add}
 use Rattle.lists.specs.Choice.{pick, both}
 use Rattle.lists.specs.Little.{little_at}

@@ -41,10 +41,10 @@ word register value = record { register = register; value = value }
 -- a screen of one pixel with a background, display and update on; layers 0 and 1 are frame layers that
 -- cover the pixel, layer 0 at depth 1 and layer 1 at depth 0
 abbrev pub one_pixel : ℕ → List Write
-one_pixel ground =
+one_pixel below =
     word 0 5
     ∷ word 1 0x0001_0001
-    ∷ word 2 ground
+    ∷ word 2 below
     ∷ word 4 0x0101
     ∷ word 7 0x0001_0001
     ∷ word 10 0x0001
@@ -72,11 +72,11 @@ written_to d (w ∷ rest) = written_to (write_of d w.register w.value).state res
 
 -- the words of that one pixel written
 abbrev pub written : ℕ → Display
-written ground = written_to first (one_pixel ground)
+written below = written_to first (one_pixel below)
 
 -- and let in by a start
 abbrev pub started : ℕ → Display
-started ground = (start_of (written ground)).state
+started below = (start_of (written below)).state
 
 -- the update bit alone: a start is refused with 8, since the screen has no size
 abbrev pub sizeless : Display

@@ -1,5 +1,5 @@
 -- Screens of 2 by 1 pixels on which the laws of painting are worked. Assumes nothing.
-use Rattle.std.specs.Prelude.{ℕ, ◌+◌, ◌-◌, ◌*◌, ◌^◌, true, List, [], ◌∷◌, ◌++◌, Float, length, replicate}
+use Rattle.std.specs.Prelude.{ℕ, ◌+◌, ◌-◌, ◌*◌, ◌^◌, true, List, [], ◌∷◌, ◌++◌, Float, replicate}
 use Rattle.std.specs.Float.{binary32}
 use Rattle.std.specs.Float.Ieee.{of_bits}
 use Rattle.profiles.specs.Profile.{one_bit}
@@ -27,7 +27,7 @@ flow depth x = (5 + 256 * depth) ∷ 0 ∷ x ∷ (1 + 65536) ∷ 0 ∷ 0 ∷ []
 
 -- 2 by 1 pixels, with a background and two layers
 abbrev pub words : ℕ → List ℕ → List ℕ → List ℕ
-words ground l₀ l₁ = 1 ∷ (2 + 65536) ∷ ground ∷ 0 ∷ (l₀ ++ l₁ ++ replicate 36 0)
+words below l₀ l₁ = 1 ∷ (2 + 65536) ∷ below ∷ 0 ∷ (l₀ ++ l₁ ++ replicate 36 0)
 
 -- a brown background, and a red one
 abbrev pub brown : ℕ
@@ -55,7 +55,7 @@ lit = words red (dot 0 0) (dot 1 0)
 
 -- both on one pixel, the upper one fading, with a background
 abbrev pub faded : ℕ → List ℕ
-faded ground = words ground (dot 0 0) (fading 1 0)
+faded below = words below (dot 0 0) (fading 1 0)
 
 -- a graphics layer under a frame layer, beside it
 abbrev pub drawing : List ℕ

@@ -1,6 +1,7 @@
 // A line of a sheet in, a line out: read whole, then done, then printed. Its reply is made as bytes,
 // and the frame is painted where it stands in them, so that one place prints.
 #![tactic(auto)]
+
 ghost use Rattle.std.specs.Prelude.{◌≡◌, [], ◌∷◌, ◌≤◌, length, take};
 ghost use Rattle.lists.specs.Over.{over};
 ghost use Rattle.answers.specs.Answers.{done};

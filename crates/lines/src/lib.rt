@@ -1,6 +1,7 @@
 // A line of a sheet in, a line out; and a sheet that comes in blocks, many lines in a call. Nothing
 // here reads or writes a file.
 #![tactic(auto)]
+
 ghost use Rattle.std.specs.Prelude.{◌≡◌, ◌≤◌, ◌<◌, length};
 ghost use Rattle.lists.specs.Over.{over};
 ghost use Rattle.display.specs.Reached.{Arranged};

@@ -1,6 +1,7 @@
 // What runs of puts and of writes do below the display: to the selected table and the error word, and to the
 // pending words. The bytes that fit are copied at once.
 #![tactic(auto)]
+
 ghost use Rattle.std.specs.Prelude.{◌≡◌, ◌+◌, ◌-◌, ◌*◌, ◌^◌, ◌≤◌, ◌<◌, min, length};
 ghost use Rattle.std.specs.Int.Bits.{bit_or};
 ghost use Rattle.tables.specs.Geometry.{tables_len};

@@ -1,6 +1,7 @@
 // One channel of a pixel over what is under it, and the alpha that a fade gives. Nothing here
 // knows of layers or buffers.
 #![tactic(auto)]
+
 ghost use Rattle.std.specs.Prelude.{◌≡◌, ◌<◌};
 ghost use Rattle.mix.specs.Blend.{blend_of};
 ghost use Rattle.mix.specs.Fade.{fade_of};

@@ -1,5 +1,6 @@
 // The smaller of two numbers, and numbers out of bytes and into them. Nothing here knows of displays.
 #![tactic(auto)]
+
 ghost use Rattle.std.specs.Prelude.{◌≡◌, ◌+◌, ◌*◌, ◌≤◌, ◌<◌, ◌^◌, min, length};
 ghost use Rattle.lists.specs.Little.{little_at};
 ghost use Rattle.lists.specs.Bytes.{little_byte, little_bytes};

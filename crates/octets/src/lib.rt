@@ -1,5 +1,6 @@
 // A byte sought in a row of bytes, and a row of bytes copied to the front of another.
 #![tactic(auto)]
+
 ghost use Rattle.std.specs.Prelude.{◌≡◌, ◌≤◌, length};
 ghost use Rattle.lists.specs.Over.{over};
 ghost use Rattle.octets.specs.Bytes.{index_of};

@@ -2,6 +2,7 @@
 // frame layer's picture begins in its buffer, and how long both buffers are. Functions of words alone, so that a state
 // can hold what they answer.
 #![tactic(auto)]
+
 ghost use Rattle.std.specs.Prelude.{◌≡◌, ◌+◌, ◌≤◌, ◌<◌};
 ghost use Rattle.words.specs.Order.{here, layers_below, order_of};
 ghost use Rattle.words.specs.Pictures.{picture_len, pictures_of};

@@ -1,6 +1,7 @@
 // The painted frame: fill, a band of depths, both, and a line of both. Rows outside and layers inside, so that a
 // line of the frame stays at hand; what is the same for a whole painting is worked out before its rows.
 #![tactic(auto)]
+
 ghost use Rattle.std.specs.Prelude.{◌≡◌, length};
 ghost use Rattle.lists.specs.Tab.{each};
 ghost use Rattle.order.specs.Layout.{layout_of};

@@ -1,6 +1,7 @@
 // A graphics layer's instruction list, drawn into one line of colour indexes. Nothing here knows of
 // colours or frames.
 #![tactic(auto)]
+
 ghost use Rattle.std.specs.Prelude.{◌≡◌, ◌<◌, length};
 ghost use Rattle.lists.specs.Tab.{tab, each};
 ghost use Rattle.tables.specs.Geometry.{instructions};

@@ -2,6 +2,7 @@
 // order of painting, where it lies on a line, its alpha, and where its picture or its tables stand; and the error
 // bits. For `scanline` and `paint` alone.
 #![tactic(auto)]
+
 ghost use Rattle.std.specs.Prelude.{◌≡◌, true, ◌+◌, ◌<◌, ◌≤◌, length, take, drop};
 ghost use Rattle.words.specs.Fields.{layer_of};
 ghost use Rattle.words.specs.Pictures.{start_at};

@@ -1,6 +1,7 @@
 // What is chosen when a state is made and stays with it. A state and a scene hold one; a definition takes
 // the part of it that it needs.
 #![tactic(auto)]
+
 ghost use Rattle.std.specs.Prelude.{◌≡◌, ◌<◌, ◌≤◌};
 ghost use Rattle.profiles.specs.Profile.{bits_of};
 

@@ -1,5 +1,6 @@
 // What painting refuses, in document 01's order, by the words and the buffers' lengths.
 #![tactic(auto)]
+
 ghost use Rattle.std.specs.Prelude.{◌≡◌, true, false, ◌≤◌, eqb};
 ghost use Rattle.lists.specs.Choice.{pick, or_else};
 ghost use Rattle.answers.specs.Answers.{done, pictures_length, floats_length};

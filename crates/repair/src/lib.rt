@@ -1,6 +1,7 @@
 // Repair of a register image: 02 K4, with the step of K7. Each step is a function of the 52 words; the call
 // mends an image in place and lists what was changed.
 #![tactic(auto)]
+
 ghost use Rattle.std.specs.Prelude.{◌≡◌};
 ghost use Rattle.lists.specs.Over.{over};
 ghost use Rattle.repair.specs.Steps.{placed, mend_of};

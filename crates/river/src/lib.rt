@@ -1,6 +1,7 @@
 // The river's floats as bytes: the exact byte of a value, by its bits, and a row of pixels of four values.
 // Nothing here knows of layers or frames.
 #![tactic(auto)]
+
 ghost use Rattle.std.specs.Prelude.{◌≡◌, ◌+◌, ◌-◌, ◌%◌, ◌^◌, ◌≤◌, ◌<◌, length};
 ghost use Rattle.mix.specs.Pixel.{pixel_len};
 ghost use Rattle.river.specs.River.{byte_of, bytes_of, bytes_from};

@@ -1,9 +1,9 @@
 -- The writes in a run of bytes: how many there are, those of two parts, and bytes that are no item. Assumes nothing.
-use mathlib.Core.Path.{◌≡◌, refl, sym, ap, ap₂, ◌∙◌}
+use mathlib.Core.Path.{◌≡◌, refl, ap, ap₂, ◌∙◌}
 use mathlib.Core.List.{List, [], ◌∷◌, ◌++◌}
 use Prim.Native.Nat.{ℕ, zero, suc, ◌+◌, ◌*◌, ◌/◌, ◌%◌, ◌≤◌, ◌<◌}
 use native.Mathlib.Omega.{arith}
-use lib.ListN.{length, get_or, drop, length-append, length-drop, get_or-append}
+use lib.ListN.{length, drop, length-append, length-drop, get_or-append}
 use lib.Seq.{drop-append-le}
 use Rattle.lists.specs.Little.{little_at}
 use Rattle.runs.specs.Writes.{Write, write_in, first_writes, writes_in}

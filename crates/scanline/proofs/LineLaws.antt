@@ -15,7 +15,7 @@ use Rattle.lists.specs.Choice.{pick, both}
 use Rattle.lists.specs.Tab.{each}
 use Rattle.lists.specs.Steps.{through}
 use Rattle.lists.proofs.Choice.{pick-cong}
-use Rattle.lists.proofs.Tab.{each_part, each-id, each-cong, each-cong-below, each_turn, each-then, get_d_part}
+use Rattle.lists.proofs.Tab.{each_part, each-id, each-cong-below, each_turn, each-then, get_d_part}
 use Rattle.lists.proofs.Steps.{through-none, through-id, through-cong, through-append, through-next, through-keep}
 use Rattle.mix.specs.Blend.{blend_of}
 use Rattle.words.specs.declared.fields.Layer.{Layer}

@@ -15,7 +15,7 @@ use Rattle.mix.specs.Blend.{blend_of}
 use Rattle.mix.proofs.BlendLaws.{blend_of-clear}
 use Rattle.sixteen.specs.Engine.Lanes.{Part, Reach, Front, Lanes, anew, WordIs, PixelIs, SameIs, HighIs, HalfIs, JoinIs}
 use Rattle.sixteen.specs.Engine.Lanes.{MixIs, store_byte}
-use Rattle.colours.specs.Rows.{pixel_byte, word_byte, colour_byte, colour_row, solid_byte, PaletteOf}
+use Rattle.colours.specs.Rows.{word_byte, colour_byte, colour_row, solid_byte, PaletteOf}
 use Rattle.colours.specs.Engine.Indexes.{Same}
 use Rattle.span.specs.Span.{over_byte}
 use Rattle.span.specs.Engine.Laid.{Onward}

@@ -2,6 +2,7 @@
 // contract, so that its inside can be made faster and nothing above it is proved again. Nothing here knows
 // of layers or frames.
 #![tactic(auto)]
+
 ghost use Rattle.std.specs.Prelude.{◌≡◌, true, false, ◌*◌, ◌%◌, length};
 ghost use Rattle.lists.specs.Tab.{tab, each};
 ghost use Rattle.mix.specs.Pixel.{pixel_len};

@@ -1,5 +1,6 @@
 // What is wrong with 52 words: 01 "Answers by number", 7 to 11, in the order of a start.
 #![tactic(auto)]
+
 ghost use Rattle.std.specs.Prelude.{◌≡◌, ◌<◌};
 ghost use Rattle.lists.specs.Runs.{first_of};
 ghost use Rattle.words.specs.Check.{reserved_at, kind_of, kind_at, screen_of, place_of, place_at};

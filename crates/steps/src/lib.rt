@@ -1,6 +1,7 @@
 // What a line of a sheet asks of the display: its form, and its steps before the start, one after
 // the other; the bytes of a load by one run. A step after a refusal changes nothing, so no loop is left early.
 #![tactic(auto)]
+
 ghost use Rattle.std.specs.Prelude.{◌≡◌, ℕ, ◌+◌, ◌*◌, ◌<◌, ◌≤◌, length, List};
 ghost use Rattle.answers.specs.Answers.{done};
 ghost use Rattle.display.specs.State.{told};

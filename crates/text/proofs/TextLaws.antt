@@ -1,7 +1,6 @@
 -- Laws of text: a row of pixels is drawn part by part from the left, or in one way and then in another; a row
 -- beside the text is left. Assumes nothing.
 use mathlib.Core.Path.{◌≡◌, refl, sym, ap, ◌∙◌}
-use mathlib.Core.Bool.{Bool, true, false}
 use mathlib.Core.Logic.{⊎_elim}
 use mathlib.Core.List.{List}
 use Prim.Native.Nat.{ℕ, ◌+◌, ◌-◌, ◌*◌, ◌/◌, ◌%◌, ◌^◌, ◌≤◌, ◌<◌}
@@ -9,9 +8,9 @@ use native.Mathlib.Nat.{add-mul, mul-le-mul_right, div-lt_iff_lt-mul, le-div_iff
 use native.Mathlib.Omega.{arith}
 use lib.ListN.{get_or}
 use lib.Pow.{pow_pos}
-use lib.Dec.{leb, ltb, eqb}
+use lib.Dec.{leb, eqb}
 use borrow.Author.Tests.{le-leb, lt-leb, lt-ltb, le-ltb, eq-eqb, ne_eqb}
-use Rattle.lists.specs.Choice.{pick, both}
+use Rattle.lists.specs.Choice.{pick}
 use Rattle.lists.proofs.Choice.{split, same_or, both-none, pick-keeps}
 use Rattle.tables.specs.Geometry as geometry
 use Rattle.tables.specs.Geometry.{colours, glyph_rows}

@@ -1,13 +1,13 @@
 -- The columns of one value in a line of a glyph, as a mask. Two bits a pixel go by the line's two bytes, of which
 -- what each of the 256 gives is computed. Assumes nothing.
-use mathlib.Core.Path.{◌≡◌, refl, ap, ◌∙◌}
-use mathlib.Core.Bool.{Bool, true, false}
+use mathlib.Core.Path.{◌≡◌, refl, ◌∙◌}
+use mathlib.Core.Bool.{Bool, true}
 use Prim.Native.Nat.{ℕ, zero, suc, ◌+◌, ◌-◌, ◌*◌, ◌/◌, ◌%◌, ◌^◌, ◌≤◌, ◌<◌}
 use native.Mathlib.Nat.{not-suc-le-zero, le_of_suc-le-suc, mod-lt}
 use native.Mathlib.Omega.{arith}
 use lib.Bits.{bit_and, bit_or, bit_xor}
 use lib.Dec.{ltb, eqb}
-use borrow.Author.Tests.{ltb-true, eqb-true, eq-eqb, ne_eqb}
+use borrow.Author.Tests.{ltb-true, eqb-true}
 use Rattle.lists.specs.Choice.{pick, both}
 use Rattle.lists.proofs.Choice.{both_left, both_right}
 use Rattle.draw.specs.Text.{glyph_columns, pixel_of}

@@ -1,6 +1,7 @@
 // Text of an instruction, on one line: its characters from left to right, each a row of its glyph. A glyph's
 // pixel has one bit or two; the columns of each value are a mask, drawn run by run in that value's colour.
 #![tactic(auto)]
+
 ghost use Rattle.std.specs.Prelude.{◌≡◌, ◌*◌, ◌≤◌, ◌<◌, ◌^◌, length};
 ghost use Rattle.lists.specs.Tab.{each};
 ghost use Rattle.tables.specs.Geometry.{instructions, strings as string_count, strings_len, font_len, glyph_rows};

@@ -1,5 +1,6 @@
 // Lines of hexadecimal: gathered from blocks of bytes, and printed. Nothing here knows what a line says.
 #![tactic(auto)]
+
 ghost use Rattle.std.specs.Prelude.{◌≡◌, ◌+◌, ◌*◌, ◌≤◌, length, take};
 ghost use Rattle.lists.specs.Over.{over};
 ghost use Rattle.texts.specs.Lines.{kept_of};

@@ -1,6 +1,5 @@
 -- `display::verdict_on` meets its contract: the tests are the definition's. Assumes nothing.
 use Rattle.std.proofs.Common.{sym, ◌∙◌}
-use borrow.Author.Tests.{not-true, not-false}
 use Rattle.display.proofs.verdict_on.Goals as goal
 
 pub returns-then-not-is_update : goal.returns-then-not-is_update

@@ -28,7 +28,6 @@ loop-k-preserved c = (omega arith, search (list-again, rules))
 
 -- ---- the list's end: none found, or one at k
 
-
 end_none : (ins : List ℕ) (k : ℕ) → instructions ≤ k → zero_from (instructions - k) (opcode ins) k ≡ count_of ins
     → record { found = false; count = k } ≡ list_end ins
 unfolding ended_of

@@ -1,7 +1,7 @@
 -- `hexadecimal::read_bytes` meets its contract. At the head of turn i the digits from 2·i on are as
 -- good as the whole text, and the first i bytes stand before what they stand for. The measure is
 -- what is left. Assumes nothing.
-use Prim.Native.Nat.{◌+◌, ◌-◌, ◌*◌, ◌≤◌}
+use Prim.Native.Nat.{◌-◌, ◌*◌, ◌≤◌}
 use mathlib.Core.Path.{◌≡◌}
 use mathlib.Core.List.{◌++◌}
 use lib.ListN.{length, take, drop}

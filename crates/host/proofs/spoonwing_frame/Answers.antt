@@ -7,20 +7,20 @@ use Rattle.host.proofs.HostLaws.{host-length, host-refused, host-painted}
 use Rattle.host.proofs.spoonwing_frame.Goals as goal
 
 pub returns-then-image-ne-IMAGE_LEN : goal.returns-then-image-ne-IMAGE_LEN
-returns-then-image-ne-IMAGE_LEN c = 
+returns-then-image-ne-IMAGE_LEN c =
     let r =
     host-length _ _ _ _ _ c.if-image-ne-IMAGE_LEN.true in
-    record { answer = r.0; output = r.1; }
+    record { answer = r.0; output = r.1 }
 
 pub returns-then-refusal-ne-DONE : goal.returns-then-refusal-ne-DONE
-returns-then-refusal-ne-DONE c = 
+returns-then-refusal-ne-DONE c =
     let r =
     host-refused _ _ _ _ _ c.if-image-ne-IMAGE_LEN.false _ (c.refusal_of-refusal.ensures
     ∙ ap (check_of false) c.words_at-words.ensures) c.if-refusal-ne-DONE.true in
-    record { answer = r.0; output = r.1; }
+    record { answer = r.0; output = r.1 }
 
 pub returns : goal.returns
-returns c = 
+returns c =
     let w = c.words_at-words.ensures in
     let p = c.profile_for-profile.ensures in
     let r =
@@ -28,4 +28,4 @@ returns c =
     (c.refusal_of-refusal.ensures ∙ ap (check_of false) w) c.if-refusal-ne-DONE.false _
     (rw (w, p) at c.frame-painted.ensures.told)
     (rw (w, p) at c.frame-painted.ensures.output) in
-    record { answer = r.0; output = r.1; }
+    record { answer = r.0; output = r.1 }

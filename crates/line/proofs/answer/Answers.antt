@@ -1,7 +1,6 @@
 -- `line::answer` meets its contract: a text that is too long or not hexadecimal is bad form;
 -- else its bytes fit. Assumes nothing.
 use native.Mathlib.Omega.{arith}
-use borrow.Author.Tests.{not-true, not-false}
 use Prim.Native.Nat.{◌/◌, ◌≤◌}
 use mathlib.Core.Path.{sym}
 use lib.ListN.{length}
@@ -29,11 +28,11 @@ returns-then-not-good c = let a =
 
 pub slice_bounds-work-end : goal.slice_bounds-work-end
 slice_bounds-work-end c = let u = c.read_bytes-good in let h : length c.args.text.now / 2 ≤ length u.new.bytes = omega (
-      arith,
-      u.auto.bytes,
-      c.no_bytes-b.ensures,
-      c.if-text-gt-MOST_DIGITS.false,
-    ) in
+  arith,
+  u.auto.bytes,
+  c.no_bytes-b.ensures,
+  c.if-text-gt-MOST_DIGITS.false,
+) in
     sym (length-take-le _ u.new.bytes h)
 
 pub returns : goal.returns

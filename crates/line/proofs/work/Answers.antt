@@ -1,6 +1,5 @@
 -- `line::work` meets its contract: bad form does nothing; else steps, start and frame follow
 -- each other, and the picture bytes are what is left behind their count. Assumes nothing.
-use borrow.Author.Tests.{not-true, not-false}
 use mathlib.Core.Path.{refl, ap}
 use Rattle.steps.specs.declared.form.Parts.{Parts}
 use Rattle.steps.proofs.FormLaws.{picture-room, writes-room}
@@ -32,11 +31,11 @@ slice_bounds-frame-start c = picture-room c.args.b.now _ c.parts_of-parts.ensure
 
 pub frame-requires : goal.frame-requires
 frame-requires c = let a = c.args in (
-      rw c.start-s.ensures
-          (started-arranged _ (steps-arranged a.state a.tables.now _ a.b.now _
-          c.run-t.ensures c.requires.0)),
-      c.requires.1,
-    )
+  rw c.start-s.ensures
+      (started-arranged _ (steps-arranged a.state a.tables.now _ a.b.now _
+      c.run-t.ensures c.requires.0)),
+  c.requires.1,
+)
 
 pub returns : goal.returns
 returns c = let a =

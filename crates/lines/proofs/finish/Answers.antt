@@ -3,7 +3,7 @@ use native.Mathlib.Omega.{arith}
 use Rattle.lines.proofs.finish.Goals as goal
 
 pub returns : goal.returns
-returns c = 
+returns c =
     let e = c.finish_in.ensures in
     record {
       printed = e.value;

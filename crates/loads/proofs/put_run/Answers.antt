@@ -7,7 +7,7 @@ use Rattle.loads.proofs.LoadLaws.{passes-long, load-empty, load-refused, load-al
 use Rattle.loads.proofs.put_run.Goals as goal
 
 pub returns-then-run-eq0 : goal.returns-then-run-eq0
-returns-then-run-eq0 c = 
+returns-then-run-eq0 c =
     let e = load-empty _ _ _ _ _ _ c.if-run-eq0.true in
     record {
       loaded = c.nothing.ensures ∙ e.0;
@@ -15,7 +15,7 @@ returns-then-run-eq0 c =
     }
 
 pub returns-then-refusal-ne-DONE : goal.returns-then-refusal-ne-DONE
-returns-then-refusal-ne-DONE c = 
+returns-then-refusal-ne-DONE c =
     let e = load-refused _ _ _ _ _ _ c.if-run-eq0.false _ c.refusal_of-refusal.ensures
     c.if-refusal-ne-DONE.true in
     record {
@@ -34,17 +34,17 @@ store-requires c = let run = c.args.run.now in let n = length-take-le c.fitting-
     (c.requires, passes-long _ _ _ _ _ passes, omega (arith, n, c.fitting-fits.ensures.0))
 
 pub returns-then-fits-run : goal.returns-then-fits-run
-returns-then-fits-run c = 
+returns-then-fits-run c =
     let r =
     load-all _ _ _ _ _ _ c.if-run-eq0.false _ _ _
     c.refusal_of-refusal.ensures
     c.if-refusal-ne-DONE.false
     c.fitting-fits.ensures.0
     c.store.ensures c.if-fits-run.true in
-    record { loaded = r.0; tables = r.1; }
+    record { loaded = r.0; tables = r.1 }
 
 pub returns : goal.returns
-returns c = 
+returns c =
     let r =
     load_full _ _ _ _ _ _
     c.if-run-eq0.false _ _ _
@@ -53,4 +53,4 @@ returns c =
     c.fitting-fits.ensures.0
     c.store.ensures _ c.if-fits-run.false
     c.with_full.ensures in
-    record { loaded = r.0; tables = r.1; }
+    record { loaded = r.0; tables = r.1 }

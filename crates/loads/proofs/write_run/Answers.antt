@@ -4,7 +4,7 @@ use borrow.Author.Rules.{rules}
 use native.Mathlib.Omega.{arith}
 use mathlib.Core.Path.{◌≡◌, refl, ap}
 use mathlib.Core.List.{List}
-use Prim.Native.Nat.{ℕ, ◌-◌}
+use Prim.Native.Nat.{ℕ}
 use Rattle.runs.specs.Run.{Many, many}
 use Rattle.loads.specs.Loads.{went_of}
 use Rattle.loads.proofs.WriteLaws.{write-begins, write-turn, write-stop, write-end}
@@ -19,19 +19,19 @@ pub loop-i-init : goal.loop-i-init
 loop-i-init c = (refl, omega arith, write-begins _ _ _ refl)
 
 pub returns-then-register-ge-WORDS : goal.returns-then-register-ge-WORDS
-returns-then-register-ge-WORDS c = 
+returns-then-register-ge-WORDS c =
     let e = write-stop _ _ _ _ _ c.loop-i.invariant.2 _
     c.loop-i-test.true c.wide-register.ensures.0 c.if-register-ge-WORDS.true in
     let r =
     ends _ e in
-    record { went = r.0; pending = r.1; }
+    record { went = r.0; pending = r.1 }
 
 pub loop-i-preserved : goal.loop-i-preserved
 loop-i-preserved c = search (write-turn, rules)
 
 pub returns : goal.returns
-returns c = 
+returns c =
     let e = write-end _ _ _ _ _ c.loop-i.invariant.2 c.loop-i.invariant.1 c.loop-i-test.false in
     let r =
     ends _ e in
-    record { went = r.0; pending = r.1; }
+    record { went = r.0; pending = r.1 }

@@ -1,8 +1,8 @@
 -- `mix::fade` meets its contract: below the length the sum stays under 2 ^ 24 and a half, so no step
 -- wraps; each `return` is a case of `fade_at` at the e that the wrapping difference gives.
 -- Assumes nothing.
-use Rattle.std.proofs.Common.{◌≡◌, ◌+◌, ◌-◌, ◌*◌, ◌≤◌, sym, arith}
-use Rattle.mix.specs.Fade.{elapsed, fade_of}
+use Rattle.std.proofs.Common.{◌+◌, ◌-◌, ◌*◌, ◌≤◌, sym, arith}
+use Rattle.mix.specs.Fade.{fade_of}
 use Rattle.mix.proofs.FadeLaws.{fade_at-still, fade_at-before, fade_at-ended, fade_at-way, is-elapsed, way-sum-le}
 use Rattle.mix.proofs.FadeLaws.{way-le}
 use Rattle.mix.proofs.fade.Goals as goal
@@ -10,7 +10,6 @@ use Rattle.mix.proofs.fade.Goals as goal
 pub returns-then-length-eq0 : goal.returns-then-length-eq0
 unfolding fade_of
 returns-then-length-eq0 c = rw c.if-length-eq0.true (sym (fade_at-still _ _ _))
-
 
 pub returns-then-e-ge-NEGATIVE : goal.returns-then-e-ge-NEGATIVE
 unfolding fade_of

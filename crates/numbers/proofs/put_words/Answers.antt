@@ -1,7 +1,6 @@
 -- `numbers::put_words` meets its contract: the invariant is that the words below i are written; the measure
 -- is what is left. Assumes nothing.
 use borrow.Author.Rules.{rules}
-use Prim.Native.Nat.{◌-◌}
 use native.Mathlib.Omega.{arith}
 use Rattle.lists.proofs.Upto.{upto-none}
 use Rattle.lists.proofs.Little.{word-again, words-bytes}

@@ -1,5 +1,4 @@
 -- `octets::copy` meets its contract: the front becomes the part. Assumes nothing.
-use Rattle.std.proofs.Common.{arith, rules, refl}
 use Rattle.lists.specs.Over.{over}
 use Rattle.octets.proofs.copy.Goals as goal
 

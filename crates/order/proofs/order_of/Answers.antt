@@ -1,7 +1,6 @@
 -- `order::order_of` meets its contract: the invariant is that the layers of depths below d have
 -- been found; the measure is what is left. Assumes nothing.
 use borrow.Author.Rules.{rules}
-use Prim.Native.Nat.{◌-◌}
 use native.Mathlib.Omega.{arith}
 use Rattle.order.proofs.PackedLaws.{order-none, order-all}
 use Rattle.order.proofs.order_of.Goals as goal

@@ -31,8 +31,8 @@ overflow_mul-result-2 c = omega (arith, bound c)
 pub returns : goal.returns
 unfolding picture_len
 returns c = rw (
-      not-false c.args.l.on
-          c.if-not-l.false,
-      c.if-l.false,
-      agree-self c.args.l.floats,
-    )
+  not-false c.args.l.on
+      c.if-not-l.false,
+  c.if-l.false,
+  agree-self c.args.l.floats,
+)

@@ -1,7 +1,6 @@
 -- `order::pictures_of` meets its contract: the invariant is that the starts below n are
 -- written and the sums so far are the next; the measure is what is left. Assumes nothing.
 use borrow.Author.Rules.{rules}
-use Prim.Native.Nat.{◌-◌}
 use native.Mathlib.Omega.{arith}
 use Rattle.order.proofs.StartLaws.{starts_none, starts-room, starts-next, starts-all}
 use Rattle.order.proofs.pictures_of.Goals as goal

@@ -2,7 +2,6 @@
 -- looked at; the measure is what is left. Assumes nothing.
 use borrow.Author.Rules.{rules}
 use mathlib.Core.Path.{ap, ◌∙◌}
-use Prim.Native.Nat.{◌-◌}
 use native.Mathlib.Omega.{arith}
 use Rattle.order.specs.Layout.{packed}
 use Rattle.order.proofs.PackedLaws.{found_none, order-depth}

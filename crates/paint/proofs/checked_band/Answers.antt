@@ -16,8 +16,7 @@ paint_unless-requires c =
     let scene : Scene =
     scene_of c.args.profile c.args.w.now c.args.frame c.args.tables.now c.args.pictures.now c.args.floats.now in
     let refused : c.paint_refusal-refusal.result ≡ refusal_of scene c.args.low c.args.high c.args.out.now =
-    rw c.bits_of-bits.ensures.0 at c.paint_refusal-refusal.ensures in
-    (
+    rw c.bits_of-bits.ensures.0 at c.paint_refusal-refusal.ensures in (
       c.requires,
       rw c.screen_height.ensures
           (whole-asked scene _ _ c.args.fresh _ _ c.args.errors refused),

@@ -8,7 +8,7 @@ use Rattle.paint.proofs.FrameLaws.{filled_is, fill-refused, fill_done}
 use Rattle.paint.proofs.fill.Goals as goal
 
 pub returns-then-refusal-ne-DONE : goal.returns-then-refusal-ne-DONE
-returns-then-refusal-ne-DONE c = 
+returns-then-refusal-ne-DONE c =
     record {
       answer = c.fill_refusal-refusal.ensures;
       output = fill-refused _ _ _ c.fill_refusal-refusal.ensures c.if-refusal-ne-DONE.true;
@@ -22,11 +22,11 @@ pub shape_of-out : goal.shape_of-out
 shape_of-out c = ap length c.fill.ensures ∙ length-tab _ _
 
 pub returns : goal.returns
-returns c = 
+returns c =
     let r = c.fill_refusal-refusal.ensures in
     let z = c.if-refusal-ne-DONE.false in
     let r =
     fill_done _ _ _ _ r z
     (filled_is _ _ _ (fill-long _ _ (sym r ∙ z))
     (rw c.ground_of-ground.ensures at c.fill.ensures)) in
-    record { answer = r.0; output = r.1; }
+    record { answer = r.0; output = r.1 }

@@ -3,7 +3,6 @@
 use mathlib.Core.Path.{◌≡◌, refl, sym, ap, ◌∙◌}
 use native.Mathlib.Omega.{arith}
 use lib.ListN.{length}
-use borrow.Author.Tests.{not-true, not-false}
 use Rattle.lists.proofs.Tab.{length-each, each-cong}
 use Rattle.profiles.specs.Profile.{bits_of}
 use Rattle.profiles.proofs.ProfileLaws.{bits-few}
@@ -23,14 +22,14 @@ pub shape_of-out-then-not-is_shown : goal.shape_of-out-then-not-is_shown
 shape_of-out-then-not-is_shown c = ap length c.lay_ground.ensures ∙ length-each _ _
 
 pub returns-then-not-is_shown : goal.returns-then-not-is_shown
-returns-then-not-is_shown c = 
+returns-then-not-is_shown c =
     let off = sym c.is_shown.ensures
     ∙ c.if-not-is_shown.true in
     let r =
     part_off _ c.args.part _ _ _ _ off
     ((rw c.ground_of.ensures at c.lay_ground.ensures)
     ∙ each-cong _ _ c.args.out.now (λ i p. ground-byte c.args.w.now c.args.fresh i p)) in
-    record { errors = r.0; output = r.1; }
+    record { errors = r.0; output = r.1 }
 
 pub plan_of-plan-requires : goal.plan_of-plan-requires
 plan_of-plan-requires c = rw c.bits_of.ensures.0 (bits-few c.args.profile, c.requires.0, c.requires.1.lent.tables)
@@ -68,4 +67,4 @@ returns c =
     (c.paint_rows.ensures.laid _
     (refl, record { draws = refl; shows = refl; flows = refl })
     (record { order = a.requires.1.low; end = a.requires.1.high; planned = planned })) in
-    record { errors = r.0; output = r.1; }
+    record { errors = r.0; output = r.1 }

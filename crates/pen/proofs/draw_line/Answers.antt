@@ -1,7 +1,6 @@
 -- `draw_line` meets its contract: before each turn the line is as the first k instructions draw it, and one whose
 -- span has no such row leaves it so. The measure is the instructions left. Assumes nothing.
 use mathlib.Core.Path.{ap, ◌∙◌}
-use Prim.Native.Nat.{◌-◌}
 use native.Mathlib.Omega.{arith}
 use lib.ListN.{length}
 use borrow.Author.Rules.{rules}
@@ -23,15 +22,15 @@ loop-k-init c = (
 
 pub loop-k-preserved : goal.loop-k-preserved
 loop-k-preserved c = (
-      omega arith,
-      omega arith,
-      line-next _ _ _ _ _ _ _ c.loop-k.invariant.2
-          (elim c.if-is_on.branch [
-            then-is_on w ↦ w.line-is ∙ w.draw_one.ensures
-          | else-is_on w ↦ w.line-is
-          ∙ line-beside _ _ _ _ _ _ _ _ _ _ c.requires.spanned c.loop-k-test.true c.is_on.ensures w.if-is_on.false
-          ]),
-    )
+  omega arith,
+  omega arith,
+  line-next _ _ _ _ _ _ _ c.loop-k.invariant.2
+      (elim c.if-is_on.branch [
+        | then-is_on w ↦ w.line-is ∙ w.draw_one.ensures
+        | else-is_on w ↦ w.line-is
+            ∙ line-beside _ _ _ _ _ _ _ _ _ _ c.requires.spanned c.loop-k-test.true c.is_on.ensures w.if-is_on.false
+      ]),
+)
 
 pub shape_of-line : goal.shape_of-line
 shape_of-line c = ap length c.loop-k.invariant.2 ∙ length-tab _ _

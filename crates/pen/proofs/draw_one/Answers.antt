@@ -10,15 +10,15 @@ returns-then-text c =
     let a = c.args in
     let met : Under a.ins.now a.k a.v c.opcode.result a.line.now c.match-opcode.line c.match-opcode.text =
     elim c.match-opcode.branch [
-      in-10 w ↦ under-box _ _ _ _ _ w.in-10.is w.draw_box.ensures w.line-is w.text-is
-    | in-12 w ↦ under-text _ _ _ _ _ w.in-12.is w.line-is w.text-is
-    | in-14 w ↦ under-both _ _ _ _ _ w.in-14.is w.draw_box-in-14.ensures w.line-is w.text-is
-    | in_default w ↦ under_none _ _ _ _ _ (λ (e : c.opcode.result ≡ 10). omega arith) (λ (e : c.opcode.result ≡ 12). omega arith)
-        (λ (e : c.opcode.result ≡ 14). omega arith) w.line-is w.text-is
-    | in-0-to-9 w ↦ under_none _ _ _ _ _ (λ (e : c.opcode.result ≡ 10). grind arith) (λ (e : c.opcode.result ≡ 12). grind arith)
-        (λ (e : c.opcode.result ≡ 14). grind arith) w.line-is w.text-is
-    | in-0-to-9-2 w ↦ under_none _ _ _ _ _ (λ (e : c.opcode.result ≡ 10). omega arith) (λ (e : c.opcode.result ≡ 12). omega arith)
-        (λ (e : c.opcode.result ≡ 14). omega arith) w.line-is w.text-is
+      | in-10 w ↦ under-box _ _ _ _ _ w.in-10.is w.draw_box.ensures w.line-is w.text-is
+      | in-12 w ↦ under-text _ _ _ _ _ w.in-12.is w.line-is w.text-is
+      | in-14 w ↦ under-both _ _ _ _ _ w.in-14.is w.draw_box-in-14.ensures w.line-is w.text-is
+      | in_default w ↦ under_none _ _ _ _ _ (λ (e : c.opcode.result ≡ 10). omega arith) (λ (e : c.opcode.result ≡ 12). omega arith)
+          (λ (e : c.opcode.result ≡ 14). omega arith) w.line-is w.text-is
+      | in-0-to-9 w ↦ under_none _ _ _ _ _ (λ (e : c.opcode.result ≡ 10). grind arith) (λ (e : c.opcode.result ≡ 12). grind arith)
+          (λ (e : c.opcode.result ≡ 14). grind arith) w.line-is w.text-is
+      | in-0-to-9-2 w ↦ under_none _ _ _ _ _ (λ (e : c.opcode.result ≡ 10). omega arith) (λ (e : c.opcode.result ≡ 12). omega arith)
+          (λ (e : c.opcode.result ≡ 14). omega arith) w.line-is w.text-is
     ] in
     one-text _ _ _ _ _ _ _ _ c.opcode.ensures met c.if-text.true c.draw_text.ensures
 
@@ -27,14 +27,14 @@ returns-else-text c =
     let a = c.args in
     let met : Under a.ins.now a.k a.v c.opcode.result a.line.now c.match-opcode.line c.match-opcode.text =
     elim c.match-opcode.branch [
-      in-10 w ↦ under-box _ _ _ _ _ w.in-10.is w.draw_box.ensures w.line-is w.text-is
-    | in-12 w ↦ under-text _ _ _ _ _ w.in-12.is w.line-is w.text-is
-    | in-14 w ↦ under-both _ _ _ _ _ w.in-14.is w.draw_box-in-14.ensures w.line-is w.text-is
-    | in_default w ↦ under_none _ _ _ _ _ (λ (e : c.opcode.result ≡ 10). omega arith) (λ (e : c.opcode.result ≡ 12). omega arith)
-        (λ (e : c.opcode.result ≡ 14). omega arith) w.line-is w.text-is
-    | in-0-to-9 w ↦ under_none _ _ _ _ _ (λ (e : c.opcode.result ≡ 10). grind arith) (λ (e : c.opcode.result ≡ 12). grind arith)
-        (λ (e : c.opcode.result ≡ 14). grind arith) w.line-is w.text-is
-    | in-0-to-9-2 w ↦ under_none _ _ _ _ _ (λ (e : c.opcode.result ≡ 10). omega arith) (λ (e : c.opcode.result ≡ 12). omega arith)
-        (λ (e : c.opcode.result ≡ 14). omega arith) w.line-is w.text-is
+      | in-10 w ↦ under-box _ _ _ _ _ w.in-10.is w.draw_box.ensures w.line-is w.text-is
+      | in-12 w ↦ under-text _ _ _ _ _ w.in-12.is w.line-is w.text-is
+      | in-14 w ↦ under-both _ _ _ _ _ w.in-14.is w.draw_box-in-14.ensures w.line-is w.text-is
+      | in_default w ↦ under_none _ _ _ _ _ (λ (e : c.opcode.result ≡ 10). omega arith) (λ (e : c.opcode.result ≡ 12). omega arith)
+          (λ (e : c.opcode.result ≡ 14). omega arith) w.line-is w.text-is
+      | in-0-to-9 w ↦ under_none _ _ _ _ _ (λ (e : c.opcode.result ≡ 10). grind arith) (λ (e : c.opcode.result ≡ 12). grind arith)
+          (λ (e : c.opcode.result ≡ 14). grind arith) w.line-is w.text-is
+      | in-0-to-9-2 w ↦ under_none _ _ _ _ _ (λ (e : c.opcode.result ≡ 10). omega arith) (λ (e : c.opcode.result ≡ 12). omega arith)
+          (λ (e : c.opcode.result ≡ 14). omega arith) w.line-is w.text-is
     ] in
     one_plain _ _ _ _ _ _ _ _ c.opcode.ensures met c.if-text.false

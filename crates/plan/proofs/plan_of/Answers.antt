@@ -2,7 +2,6 @@
 -- of the order are planned, and their bits set; the measure is what is left. Assumes nothing.
 use borrow.Author.Rules.{rules}
 use mathlib.Core.Path.{◌≡◌, ap, ◌∙◌}
-use Prim.Native.Nat.{◌-◌}
 use native.Mathlib.Omega.{arith}
 use Rattle.plan.proofs.PlanLaws.{plan-none, plan-next, plan-all, plan-room}
 use Prim.Native.Nat.{◌<◌}
@@ -31,14 +30,13 @@ with_layer-plan-requires c =
     omega (arith, held-count _ _ c.requires.1) in
     let layer-at : get_or c.args.layout.order.layers c.loop-i.i 0 ≡ get_or (order_of c.args.w.now) c.loop-i.i 0 =
     ap (λ (o : Order). get_or o.layers c.loop-i.i 0) (held-order _ _ c.requires.1)
-    ∙ packed-at (order_of c.args.w.now) c.loop-i.i few in
-    (
-  c.requires.0,
-  rw layer-at (order_of-enabled _ _ few).0,
-  c.requires.2,
-  held-starts _ _ c.requires.1,
-  plan-room _ _ _ _ _ _ _ _ few c.loop-i.invariant.1,
-)
+    ∙ packed-at (order_of c.args.w.now) c.loop-i.i few in (
+      c.requires.0,
+      rw layer-at (order_of-enabled _ _ few).0,
+      c.requires.2,
+      held-starts _ _ c.requires.1,
+      plan-room _ _ _ _ _ _ _ _ few c.loop-i.invariant.1,
+    )
 
 pub loop-i-preserved : goal.loop-i-preserved
 loop-i-preserved c =
@@ -46,18 +44,17 @@ loop-i-preserved c =
     omega (arith, held-count _ _ c.requires.1) in
     let layer-at : get_or c.args.layout.order.layers c.loop-i.i 0 ≡ get_or (order_of c.args.w.now) c.loop-i.i 0 =
     ap (λ (o : Order). get_or o.layers c.loop-i.i 0) (held-order _ _ c.requires.1)
-    ∙ packed-at (order_of c.args.w.now) c.loop-i.i few in
-    (
-  search rules,
-  plan-next _ _ _ _ _ _ _ _ _ _ few layer-at
-      c.loop-i.invariant.1 c.with_layer-plan.ensures,
-)
+    ∙ packed-at (order_of c.args.w.now) c.loop-i.i few in (
+      search rules,
+      plan-next _ _ _ _ _ _ _ _ _ _ few layer-at
+          c.loop-i.invariant.1 c.with_layer-plan.ensures,
+    )
 
 pub returns : goal.returns
-returns c = 
+returns c =
     let a = c.args in
     let e = held-count _ _ c.requires.1 in
     let r =
     plan-all a.bits a.w.now a.frame a.tables.now _ _ c.loop-i.i _ (omega arith)
     c.loop-i.invariant.1 in
-    record { layers = r.0; errors = r.1; }
+    record { layers = r.0; errors = r.1 }

@@ -2,7 +2,6 @@
 -- list has no END, and where it is on one of the lines it goes to the first free step. Assumes nothing.
 use mathlib.Core.Path.{◌≡◌, sym, ap, ◌∙◌}
 use mathlib.Core.Bool.{true}
-use borrow.Author.Tests.{not-true, not-false}
 use Rattle.lists.proofs.Tab.{get_d-tab}
 use Rattle.words.specs.declared.fields.Layer.{Layer}
 use Rattle.words.specs.Fields.{layer_of}

@@ -3,9 +3,9 @@ use Rattle.refusals.proofs.lent_refusal.Goals as goal
 
 pub returns : goal.returns
 returns c = rw (
-      c.or_else-2.ensures,
-      c.or_else.ensures,
-      c.tables_refusal.ensures,
-      c.buffer_refusal-floats.ensures,
-      c.buffer_refusal-pictures.ensures,
-    )
+  c.or_else-2.ensures,
+  c.or_else.ensures,
+  c.tables_refusal.ensures,
+  c.buffer_refusal-floats.ensures,
+  c.buffer_refusal-pictures.ensures,
+)

@@ -6,13 +6,13 @@ use Rattle.refusals.proofs.paint_refusal.Goals as goal
 pub returns : goal.returns
 unfolding paint_refusal
 returns c = rw (
-      c.or_else-2.ensures,
-      c.band_refusal.ensures,
-      c.or_else-sized.ensures,
-      c.or_else.ensures,
-      c.output_refusal.ensures,
-      c.size_refusal.ensures,
-      c.lent_refusal-read.ensures,
-      c.requires.1,
-      c.requires.2,
-    )
+  c.or_else-2.ensures,
+  c.band_refusal.ensures,
+  c.or_else-sized.ensures,
+  c.or_else.ensures,
+  c.output_refusal.ensures,
+  c.size_refusal.ensures,
+  c.lent_refusal-read.ensures,
+  c.requires.1,
+  c.requires.2,
+)

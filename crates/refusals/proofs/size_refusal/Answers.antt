@@ -9,11 +9,11 @@ returns-then-screen_width-eq0 c = search (tests, ← c.screen_width.ensures)
 
 pub returns-then-screen_height-eq0 : goal.returns-then-screen_height-eq0
 returns-then-screen_height-eq0 c = search (
-      tests,
-      either-any,
-      ← c.screen_height.ensures,
-      ← c.screen_width.ensures,
-    )
+  tests,
+  either-any,
+  ← c.screen_height.ensures,
+  ← c.screen_width.ensures,
+)
 
 pub returns : goal.returns
 returns c = search (tests, ← c.screen_height.ensures, ← c.screen_width.ensures)

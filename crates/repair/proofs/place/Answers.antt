@@ -5,9 +5,9 @@ use Rattle.repair.proofs.place.Goals as goal
 pub returns : goal.returns
 unfolding placed
 returns c = rw (
-      c.fit.ensures,
-      c.larges_off.ensures,
-      c.empties_off.ensures,
-      c.one_kind.ensures,
-      c.clear.ensures,
-    )
+  c.fit.ensures,
+  c.larges_off.ensures,
+  c.empties_off.ensures,
+  c.one_kind.ensures,
+  c.clear.ensures,
+)

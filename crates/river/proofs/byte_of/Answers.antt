@@ -14,7 +14,6 @@ use Rattle.river.proofs.byte_of.Goals as goal
 
 -- ---- the bits
 
-
 bits : (c : goal.After-at_most-b)
     → Within c.args.x c.at_most-b.result (to_bits binary32 c.at_most-b.result)
 bits c =
@@ -25,7 +24,6 @@ pub float_to_bits-b : goal.float_to_bits-b
 float_to_bits-b c = (bits c).number
 
 -- ---- the steps
-
 
 pub overflow_sub-b : goal.overflow_sub-b
 overflow_sub-b c = omega (arith, (bits c).lower)

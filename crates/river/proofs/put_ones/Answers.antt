@@ -1,6 +1,5 @@
 -- `river::put_ones` meets its contract: the row begins with the floats' bytes up to i. The measure is what is left.
 -- Assumes nothing.
-use Prim.Native.Nat.{◌-◌}
 use native.Mathlib.Omega.{arith}
 use borrow.Author.Rules.{rules}
 use Rattle.river.proofs.RowLaws.{front-none, front-one, front-all}

@@ -1,7 +1,6 @@
 -- `span::lay_if_opaque` meets its contract: the opaque blocks are laid, and the rest, where it is opaque too, is filled
 -- and blended. Assumes nothing.
 use borrow.Author.Rules.{rules}
-use borrow.Author.Tests.{not-false}
 use native.Mathlib.Omega.{arith}
 use Rattle.span.proofs.GroundLaws.{lay-each}
 use Rattle.span.proofs.HideLaws.{opaque-all}

@@ -1,7 +1,6 @@
 -- `starts::clash_below` meets its contract: the invariant is that none before m refuses; the measure
 -- is what is left. Assumes nothing.
 use borrow.Author.Rules.{rules}
-use Prim.Native.Nat.{◌-◌}
 use Rattle.words.specs.Check.{clash_below}
 use Rattle.words.proofs.PassedLaws.{passed_none, passed-more, passed-stops, passed-all}
 use Rattle.starts.proofs.clash_below.Goals as goal

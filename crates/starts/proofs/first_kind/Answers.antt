@@ -1,7 +1,6 @@
 -- `starts::first_kind` meets its contract: the invariant is that none before n refuses; the measure
 -- is what is left. Assumes nothing.
 use borrow.Author.Rules.{rules}
-use Prim.Native.Nat.{◌-◌}
 use Rattle.words.proofs.PassedLaws.{passed_none, passed-more, passed-stops, passed-all}
 use Rattle.starts.proofs.first_kind.Goals as goal
 

@@ -11,18 +11,18 @@ returns-then-not-l c = rw (not-true c.args.l.floats c.if-not-l.true)
 pub returns-then-l : goal.returns-then-l
 unfolding kind_of
 returns-then-l c = rw (
-      not-false c.args.l.floats c.if-not-l.false,
-      c.if-l.true,
-      both-none c.args.floats,
-    )
+  not-false c.args.l.floats c.if-not-l.false,
+  c.if-l.true,
+  both-none c.args.floats,
+)
 
 pub returns-then-floats : goal.returns-then-floats
 unfolding kind_of
 returns-then-floats c = rw (
-      not-false c.args.l.floats c.if-not-l.false,
-      c.if-l.false,
-      c.if-floats.true,
-    )
+  not-false c.args.l.floats c.if-not-l.false,
+  c.if-l.false,
+  c.if-floats.true,
+)
 
 pub returns : goal.returns
 unfolding kind_of

@@ -6,8 +6,8 @@ use Rattle.starts.proofs.place.Goals as goal
 pub returns : goal.returns
 unfolding place_at
 returns c = rw (
-      c.place_of.ensures,
-      c.layer_of.ensures,
-      c.screen_height.ensures,
-      c.screen_width.ensures,
-    )
+  c.place_of.ensures,
+  c.layer_of.ensures,
+  c.screen_height.ensures,
+  c.screen_width.ensures,
+)

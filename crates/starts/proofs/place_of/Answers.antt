@@ -16,33 +16,33 @@ returns-then-l-eq0 c = search (tests, not-false c.args.l.on c.if-not-l.false)
 pub returns-then-l-eq0-2 : goal.returns-then-l-eq0-2
 unfolding place_of
 returns-then-l-eq0-2 c = search (
-      tests,
-      not-false c.args.l.on
-          c.if-not-l.false,
-    )
+  tests,
+  not-false c.args.l.on
+      c.if-not-l.false,
+)
 
 pub returns-then-width-l : goal.returns-then-width-l
 unfolding place_of
 returns-then-width-l c = search (
-      tests,
-      not-false c.args.l.on
-          c.if-not-l.false,
-    )
+  tests,
+  not-false c.args.l.on
+      c.if-not-l.false,
+)
 
 pub returns-then-height-l : goal.returns-then-height-l
 unfolding place_of
 returns-then-height-l c = search (
-      tests,
-      not-false
-          c.args.l.on
-          c.if-not-l.false,
-    )
+  tests,
+  not-false
+      c.args.l.on
+      c.if-not-l.false,
+)
 
 pub returns : goal.returns
 unfolding place_of
 returns c = search (
-      tests,
-      not-false
-          c.args.l.on
-          c.if-not-l.false,
-    )
+  tests,
+  not-false
+      c.args.l.on
+      c.if-not-l.false,
+)

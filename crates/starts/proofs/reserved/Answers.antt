@@ -1,6 +1,5 @@
 -- `starts::reserved` meets its contract: the table of masks computes to `reserved_bits`.
 -- Assumes nothing.
-use borrow.Author.Rules.{rules}
 use Rattle.lists.proofs.Tests.{tests}
 use Rattle.words.specs.Check.{reserved_at}
 use Rattle.starts.proofs.reserved.Goals as goal

@@ -14,20 +14,20 @@ loop-left-init c = (search rules, refl, rw c.byte_at-left.ensures.0 refl, rw c.b
 
 pub load-t-requires : goal.load-t-requires
 load-t-requires c = let l = c.loop-left in (
-      search rules,
-      load-room c.args.b.now l.left l.at _
-          c.loop-left-test.true l.invariant.2 c.requires,
-    )
+  search rules,
+  load-room c.args.b.now l.left l.at _
+      c.loop-left-test.true l.invariant.2 c.requires,
+)
 
 pub loop-left-preserved : goal.loop-left-preserved
 loop-left-preserved c = let l = c.loop-left in let b = c.args.b.now in (
-      search rules,
-      search rules,
-      past_loads-turn b l.left l.at _ _ c.loop-left-test.true l.invariant.2
-          c.count_at.ensures.0,
-      loads-turn b l.left l.at _ _ _ _ c.loop-left-test.true l.invariant.3
-          c.count_at.ensures.0 c.load-t.ensures,
-    )
+  search rules,
+  search rules,
+  past_loads-turn b l.left l.at _ _ c.loop-left-test.true l.invariant.2
+      c.count_at.ensures.0,
+  loads-turn b l.left l.at _ _ _ _ c.loop-left-test.true l.invariant.3
+      c.count_at.ensures.0 c.load-t.ensures,
+)
 
 pub returns : goal.returns
 returns c = search (loads-end, rules)

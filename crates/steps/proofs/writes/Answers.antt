@@ -11,10 +11,10 @@ loop-left-init c = (search rules, λ l. refl)
 
 pub loop-left-preserved : goal.loop-left-preserved
 loop-left-preserved c = let l = c.loop-left in let b = c.args.b.now in (
-      search rules,
-      λ z. writes-turn b l.left l.at _ _ _ _ _ c.loop-left-test.true (l.invariant.1 z)
-          c.byte_at.ensures.0 c.word_at.ensures.0 (c.write-t.ensures z),
-    )
+  search rules,
+  λ z. writes-turn b l.left l.at _ _ _ _ _ c.loop-left-test.true (l.invariant.1 z)
+      c.byte_at.ensures.0 c.word_at.ensures.0 (c.write-t.ensures z),
+)
 
 pub returns : goal.returns
 returns c = let l = c.loop-left in λ z. writes_end c.args.b.now l.left l.at (midway l.t z) (midway l.t z) _

@@ -5,8 +5,8 @@ use Rattle.tables.proofs.first_byte_of.Goals as goal
 
 pub returns : goal.returns
 returns c = let e = rw (
-      c.kind_of.ensures,
-      c.bank_of.ensures,
-      c.controller_of.ensures,
-    ) at c.bank_at.ensures in
+  c.kind_of.ensures,
+  c.bank_of.ensures,
+  c.controller_of.ensures,
+) at c.bank_at.ensures in
     (e, rw e (bank-room _ _ _ _ (omega arith) (omega arith)))

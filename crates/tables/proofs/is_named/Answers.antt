@@ -4,8 +4,8 @@ use Rattle.tables.proofs.is_named.Goals as goal
 
 pub returns : goal.returns
 returns c = rw (
-      c.bank_of.ensures,
-      c.active_bank.ensures,
-      c.kind_of.ensures,
-      c.controller_of.ensures,
-    )
+  c.bank_of.ensures,
+  c.active_bank.ensures,
+  c.kind_of.ensures,
+  c.controller_of.ensures,
+)

@@ -1,7 +1,6 @@
 -- `draw_glyph` meets its contract: a blank row leaves the line, and before each turn the columns of the values up to this one are drawn. The
 -- measure is the values left. Assumes nothing.
 use mathlib.Core.Path.{ap, ◌∙◌}
-use Prim.Native.Nat.{◌-◌}
 use native.Mathlib.Omega.{arith}
 use lib.ListN.{length}
 use Rattle.lists.proofs.Tab.{length-each}

@@ -66,10 +66,10 @@ loop-rest-smaller c = search (beside-lt, rules)
 
 pub loop-rest-preserved : goal.loop-rest-preserved
 loop-rest-preserved c = (
-      omega (arith, beside-lt c.loop-rest.rest c.loop-rest-test.true c.loop-rest.invariant.0),
-      search
-          (mask-turn, rules),
-    )
+  omega (arith, beside-lt c.loop-rest.rest c.loop-rest-test.true c.loop-rest.invariant.0),
+  search
+      (mask-turn, rules),
+)
 
 pub shape_of-line : goal.shape_of-line
 shape_of-line c = sym (length-each _ _) ∙ ap length c.loop-rest.invariant.1 ∙ length-each _ _

@@ -2,7 +2,7 @@
 -- give the whole. The measure is those bits as a number, which a run taken off makes smaller.
 -- Assumes nothing.
 use mathlib.Core.Path.{◌≡◌}
-use Prim.Native.Nat.{◌-◌, ◌<◌}
+use Prim.Native.Nat.{◌<◌}
 use Rattle.lists.specs.Tab.{each}
 use Rattle.draw.specs.Text.{glyph_columns, row_after}
 use Rattle.draw.specs.Engine.Rows.{mask_ink}

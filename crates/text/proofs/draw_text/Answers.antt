@@ -16,7 +16,7 @@ pub returns-then-n-ge-STRING_COUNT : goal.returns-then-n-ge-STRING_COUNT
 returns-then-n-ge-STRING_COUNT c = search (text-line-number, rules)
 
 pub draw_string-requires : goal.draw_string-requires
-draw_string-requires c = 
+draw_string-requires c =
     record {
       bits_nonzero = search rules;
       n_lt_string_count = (omega arith, search (row_lt, rules), omega arith, omega arith, omega arith, omega arith);

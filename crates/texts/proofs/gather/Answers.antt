@@ -10,19 +10,19 @@ slice_bounds-keep-end c = sym (length-take-le _ c.args.block.now
     c.find-at.ensures.within)
 
 pub returns-then-at-block : goal.returns-then-at-block
-returns-then-at-block c = 
+returns-then-at-block c =
     let a = c.args in
     let k = c.keep-kept.ensures in
     let r =
     gather-ended a.text.now a.block.now _ a.held _ _
     c.find-at.ensures.value k.0 k.1 k.2 c.if-at-block.true in
-    record { value = r.0; text_after = r.1.0; kept_in_bounds = r.1.1; }
+    record { value = r.0; text_after = r.1.0; kept_in_bounds = r.1.1 }
 
 pub returns : goal.returns
-returns c = 
+returns c =
     let a = c.args in
     let k = c.keep-kept.ensures in
     let f = c.find-at.ensures in
     let r =
     gather-open a.text.now a.block.now _ a.held _ _ f.value k.0 k.1 k.2 c.if-at-block.false f.within in
-    record { value = r.0; text_after = r.1.0; kept_in_bounds = r.1.1; }
+    record { value = r.0; text_after = r.1.0; kept_in_bounds = r.1.1 }

@@ -17,9 +17,9 @@ copy-requires c = kept-room c.args.text.now c.args.part.now c.args.held c.least-
 
 pub returns : goal.returns
 returns c = let n = c.least-n in let m = c.least-m in (
-      kept-long c.args.text.now c.args.part.now c.args.held n.result m.result
-          (omega (arith, n.ensures)) (omega (arith, m.ensures)),
-      omega (arith, n.ensures, m.ensures),
-      kept-over c.args.text.now c.args.part.now c.args.held n.result m.result
-          (omega (arith, n.ensures)) (omega (arith, m.ensures)) _ c.copy.ensures,
-    )
+  kept-long c.args.text.now c.args.part.now c.args.held n.result m.result
+      (omega (arith, n.ensures)) (omega (arith, m.ensures)),
+  omega (arith, n.ensures, m.ensures),
+  kept-over c.args.text.now c.args.part.now c.args.held n.result m.result
+      (omega (arith, n.ensures)) (omega (arith, m.ensures)) _ c.copy.ensures,
+)

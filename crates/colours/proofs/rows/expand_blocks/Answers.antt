@@ -1,6 +1,5 @@
 -- `colours::rows::expand_blocks` meets its contract: the loop has written the pixels of the first j indexes;
 -- the measure is what is left. Assumes nothing.
-use Prim.Native.Nat.{◌-◌}
 use borrow.Author.Rules.{rules}
 use Rattle.sixteen.proofs.PartLaws.{front-none}
 use Rattle.colours.proofs.RowParts.{colour-block}

@@ -1,6 +1,5 @@
 -- `colours::rows::expand_rest` meets its contract: the loop has written the pixels of the indexes from
 -- `from` up to j; the measure is what is left. Assumes nothing.
-use Prim.Native.Nat.{◌-◌}
 use native.Mathlib.Omega.{arith}
 use borrow.Author.Rules.{rules}
 use Rattle.sixteen.proofs.PartLaws.{part-to, reach-none}

@@ -1,6 +1,5 @@
 -- `colours::rows::fill_blocks` meets its contract: the loop has filled a part of the row, from its
 -- front up to i; the measure is what is left. Assumes nothing.
-use Prim.Native.Nat.{◌-◌}
 use borrow.Author.Rules.{rules}
 use Rattle.sixteen.proofs.PartLaws.{front-none}
 use Rattle.colours.proofs.RowParts.{fill-turn}

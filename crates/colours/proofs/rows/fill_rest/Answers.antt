@@ -1,6 +1,5 @@
 -- `colours::rows::fill_rest` meets its contract: the loop has filled a part of the row, from `from` up
 -- to i; the measure is what is left. Assumes nothing.
-use Prim.Native.Nat.{◌-◌}
 use borrow.Author.Rules.{rules}
 use Rattle.sixteen.proofs.PartLaws.{pixel-turn, reach-end, reach-long, reach-none}
 use Rattle.colours.proofs.rows.fill_rest.Goals as goal

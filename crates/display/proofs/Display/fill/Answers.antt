@@ -6,9 +6,9 @@ use Rattle.display.proofs.Display.fill.Goals as goal
 
 pub returns : goal.returns
 unfolding fill_told fill_bytes
-returns c = 
+returns c =
     record {
       state = ap (told c.args.self)
-      c.fill-answer.ensures.answer;
+          c.fill-answer.ensures.answer;
       output = c.fill-answer.ensures.output;
     }

@@ -8,7 +8,7 @@ use Rattle.display.proofs.Display.frame.Goals as goal
 
 pub returns : goal.returns
 unfolding frame_told paint_told frame_bytes
-returns c = 
+returns c =
     let d = c.args.self in
     record {
       state = ap (λ (p : Painted). told (with_errors d p.errors) p.answer)

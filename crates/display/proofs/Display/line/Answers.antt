@@ -8,7 +8,7 @@ use Rattle.display.proofs.Display.line.Goals as goal
 
 pub returns : goal.returns
 unfolding line_told line_bytes
-returns c = 
+returns c =
     let d = c.args.self in
     record {
       state = ap (λ (p : Painted). told (with_errors d p.errors) p.answer)

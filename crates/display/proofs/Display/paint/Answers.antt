@@ -8,7 +8,7 @@ use Rattle.display.proofs.Display.paint.Goals as goal
 
 pub returns : goal.returns
 unfolding paint_told paint_bytes
-returns c = 
+returns c =
     let d = c.args.self in
     record {
       state = ap (λ (p : Painted). told (with_errors d p.errors) p.answer)

@@ -4,7 +4,7 @@ use Rattle.display.proofs.DoorLaws.{door-length, door-done, buffer-length, buffe
 use Rattle.display.proofs.doors.spoonwing_display_frame.Goals as goal
 
 pub returns-then-state-ne-STATE_LEN : goal.returns-then-state-ne-STATE_LEN
-returns-then-state-ne-STATE_LEN c = 
+returns-then-state-ne-STATE_LEN c =
     let r = door-length _ _ c.if-state-ne-STATE_LEN.true in
     record {
       answer = r.0;
@@ -16,7 +16,7 @@ pub frame-requires : goal.frame-requires
 frame-requires c = taken-arranged _ _ c.taken.ensures
 
 pub returns : goal.returns
-returns c = 
+returns c =
     let long = c.if-state-ne-STATE_LEN.false in
     let e = c.taken.ensures in
     let told = c.frame.ensures in

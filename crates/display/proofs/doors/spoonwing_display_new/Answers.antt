@@ -5,15 +5,15 @@ use Rattle.display.proofs.DoorLaws.{door-length, door-done}
 use Rattle.display.proofs.doors.spoonwing_display_new.Goals as goal
 
 pub returns-then-state-ne-STATE_LEN : goal.returns-then-state-ne-STATE_LEN
-returns-then-state-ne-STATE_LEN c = 
+returns-then-state-ne-STATE_LEN c =
     let r =
     door-length _ _ c.if-state-ne-STATE_LEN.true in
-    record { answer = r.0; state = r.1; }
+    record { answer = r.0; state = r.1 }
 
 pub returns : goal.returns
-returns c = 
+returns c =
     let r =
     door-done _ _ _ _ _ _ c.if-state-ne-STATE_LEN.false refl
     c.new.ensures
     c.given.ensures.answer c.given.ensures.state in
-    record { answer = r.0; state = r.1; }
+    record { answer = r.0; state = r.1 }

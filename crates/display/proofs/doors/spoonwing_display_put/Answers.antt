@@ -5,7 +5,7 @@ use Rattle.display.proofs.BareLaws.{put-blind, put-tables-blind}
 use Rattle.display.proofs.doors.spoonwing_display_put.Goals as goal
 
 pub returns-then-state-ne-STATE_LEN : goal.returns-then-state-ne-STATE_LEN
-returns-then-state-ne-STATE_LEN c = 
+returns-then-state-ne-STATE_LEN c =
     let r = door-length _ _ c.if-state-ne-STATE_LEN.true in
     record {
       answer = r.0;
@@ -14,7 +14,7 @@ returns-then-state-ne-STATE_LEN c =
     }
 
 pub returns : goal.returns
-returns c = 
+returns c =
     let long = c.if-state-ne-STATE_LEN.false in
     let e = c.bare.ensures in
     let told = c.put.ensures in

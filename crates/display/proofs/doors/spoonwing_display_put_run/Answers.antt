@@ -8,7 +8,7 @@ use Rattle.display.proofs.BareLaws.{put-run-blind, put-run-tables-blind, put-run
 use Rattle.display.proofs.doors.spoonwing_display_put_run.Goals as goal
 
 pub returns-then-state-ne-STATE_LEN : goal.returns-then-state-ne-STATE_LEN
-returns-then-state-ne-STATE_LEN c = 
+returns-then-state-ne-STATE_LEN c =
     let ne = c.if-state-ne-STATE_LEN.true in
     let r = door-length _ _ ne in
     record {
@@ -19,7 +19,7 @@ returns-then-state-ne-STATE_LEN c =
     }
 
 pub returns : goal.returns
-returns c = 
+returns c =
     let long = c.if-state-ne-STATE_LEN.false in
     let e = c.bare.ensures in
     let ran = c.put_run-ran.ensures in

@@ -8,7 +8,7 @@ use Rattle.display.proofs.BareLaws.{write-run-blind, write-run-done-blind}
 use Rattle.display.proofs.doors.spoonwing_display_write_run.Goals as goal
 
 pub returns-then-state-ne-STATE_LEN : goal.returns-then-state-ne-STATE_LEN
-returns-then-state-ne-STATE_LEN c = 
+returns-then-state-ne-STATE_LEN c =
     let ne = c.if-state-ne-STATE_LEN.true in
     let r = door-length _ _ ne in
     record {
@@ -18,7 +18,7 @@ returns-then-state-ne-STATE_LEN c =
     }
 
 pub returns : goal.returns
-returns c = 
+returns c =
     let long = c.if-state-ne-STATE_LEN.false in
     let e = c.bare.ensures in
     let ran = c.write_run-ran.ensures in

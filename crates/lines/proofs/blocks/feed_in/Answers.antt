@@ -2,7 +2,6 @@
 -- leaves. The measure is what is left of the block. Assumes nothing.
 use borrow.Author.Rules.{rules}
 use native.Mathlib.Omega.{arith}
-use Prim.Native.Nat.{◌-◌}
 use mathlib.Core.Path.{refl, sym, ap, ◌∙◌}
 use Rattle.lists.proofs.Over.{over_none}
 use Rattle.lines.specs.Blocks.{Batch}
@@ -14,17 +13,17 @@ use Rattle.lines.proofs.blocks.feed_in.Goals as goal
 
 pub loop-tables-init : goal.loop-tables-init
 loop-tables-init c = (
-      leads-first
-          c.args.going c.args.tables.now c.args.text.now c.args.block.now c.args.out.now,
-      over_none c.args.out.now,
-      omega arith,
-      omega arith,
-      (λ _. refl),
-      refl,
-      c.requires.0,
-      c.requires.1,
-      c.requires.2,
-    )
+  leads-first
+      c.args.going c.args.tables.now c.args.text.now c.args.block.now c.args.out.now,
+  over_none c.args.out.now,
+  omega arith,
+  omega arith,
+  (λ _. refl),
+  refl,
+  c.requires.0,
+  c.requires.1,
+  c.requires.2,
+)
 
 pub turn-c-requires : goal.turn-c-requires
 turn-c-requires c = let i = c.loop-tables.invariant in let b =
@@ -55,7 +54,7 @@ loop-tables-preserved c = let l = c.loop-tables in let e =
     )
 
 pub returns : goal.returns
-returns c = 
+returns c =
     let l = c.loop-tables in
     let e = sym c.goes_on.ensures ∙ c.loop-tables-test.false in
     let r =

@@ -1,7 +1,7 @@
 -- `paint::rows::extents_of` meets its contract: the loop has put the spans of the first i steps; the measure is what is
 -- left. Assumes nothing.
 use mathlib.Core.Path.{refl, ◌∙◌}
-use Prim.Native.Nat.{◌-◌, ◌<◌}
+use Prim.Native.Nat.{◌<◌}
 use native.Mathlib.Omega.{arith}
 use Rattle.paint.proofs.ExtentLaws.{extents-more}
 use Rattle.paint.proofs.rows.extents_of.Goals as goal

@@ -23,14 +23,13 @@ use Rattle.paint.proofs.rows.lay_lines.Goals as goal
 use Rattle.paint.proofs.rows.lay_lines.Goals.{then-not-laid-2, else-not-laid-2}
 
 pub loop-k-init : goal.loop-k-init
-loop-k-init c =
-    (
-      search rules,
-      λ s part same of on. rows_none s part _ (rw same.0 c.requires.out_len.1) _,
-      refl,
-      refl,
-      refl,
-    )
+loop-k-init c = (
+  search rules,
+  λ s part same of on. rows_none s part _ (rw same.0 c.requires.out_len.1) _,
+  refl,
+  refl,
+  refl,
+)
 
 -- ---- line k lies in the output
 
@@ -162,13 +161,13 @@ lay_first-i-requires-clause-first_drawn c =
     let e = c.loop-top.invariant.1.long ∙ long in
     let fit = c.requires.all_fit in
     λ h g.
-        let all = c.requires.prepared (graphics-drawn fit 0 h g) in
-        record {
-          room = rw e (omega (arith, c.loop-k.invariant.3, all.scratch.wide));
-          banked = (fit.fit 0 h).banked g;
-          extended = all.lists.extended 0 h g;
-          grounded = rw c.ground_of-ground.ensures all.first;
-        }
+    let all = c.requires.prepared (graphics-drawn fit 0 h g) in
+    record {
+      room = rw e (omega (arith, c.loop-k.invariant.3, all.scratch.wide));
+      banked = (fit.fit 0 h).banked g;
+      extended = all.lists.extended 0 h g;
+      grounded = rw c.ground_of-ground.ensures all.first;
+    }
 
 pub loop-i-init : goal.loop-i-init
 loop-i-init c =
@@ -206,14 +205,14 @@ layer_line-requires-clause-fit c =
     × (length c.if-not-laid-2.row ≡ length c.loop-k.row)
     × (length c.if-not-laid-2.indexes ≡ length c.loop-k.indexes) =
     elim c.if-not-laid-2.branch [
-      then-not-laid-2 w ↦
+      | then-not-laid-2 w ↦
           let r = w.lay_first-i in (
             begun-is _ _ _ _ _ _ _ _ w.i-is w.line-is (begun_first _ _ _ _ _ _ _ _ _ _ _ c.loop-top.invariant.1 r.ensures),
             ap length w.line-is ∙ r.auto.line,
             ap length w.row-is ∙ r.auto.row,
             ap length w.indexes-is ∙ r.auto.indexes,
           )
-    | else-not-laid-2 w ↦ (
+      | else-not-laid-2 w ↦ (
         begun-is _ _ _ _ _ _ _ _ w.i-is w.line-is (c.loop-top.invariant.2 w.if-not-laid-2.false),
         ap length w.line-is,
         ap length w.row-is,
@@ -240,14 +239,14 @@ layer_line-requires-clause-scratch c =
     × (length c.if-not-laid-2.row ≡ length c.loop-k.row)
     × (length c.if-not-laid-2.indexes ≡ length c.loop-k.indexes) =
     elim c.if-not-laid-2.branch [
-      then-not-laid-2 w ↦
+      | then-not-laid-2 w ↦
           let r = w.lay_first-i in (
             begun-is _ _ _ _ _ _ _ _ w.i-is w.line-is (begun_first _ _ _ _ _ _ _ _ _ _ _ c.loop-top.invariant.1 r.ensures),
             ap length w.line-is ∙ r.auto.line,
             ap length w.row-is ∙ r.auto.row,
             ap length w.indexes-is ∙ r.auto.indexes,
           )
-    | else-not-laid-2 w ↦ (
+      | else-not-laid-2 w ↦ (
         begun-is _ _ _ _ _ _ _ _ w.i-is w.line-is (c.loop-top.invariant.2 w.if-not-laid-2.false),
         ap length w.line-is,
         ap length w.row-is,
@@ -258,16 +257,16 @@ layer_line-requires-clause-scratch c =
     begun.1 ∙ c.loop-top.invariant.1.long ∙ long in
     let e = c.loop-i.invariant.1 ∙ kept in
     λ g.
-        let room = (c.requires.prepared (c.requires.all_fit.drawn _ c.loop-i-test.true g)).scratch in
-        record {
-          wide = omega (arith, e, c.loop-i.invariant.2, begun.3, c.loop-k.invariant.3, room.wide);
-          long = omega (arith, e, c.loop-i.invariant.3, begun.2, c.loop-k.invariant.4, room.long);
-        }
+    let room = (c.requires.prepared (c.requires.all_fit.drawn _ c.loop-i-test.true g)).scratch in
+    record {
+      wide = omega (arith, e, c.loop-i.invariant.2, begun.3, c.loop-k.invariant.3, room.wide);
+      long = omega (arith, e, c.loop-i.invariant.3, begun.2, c.loop-k.invariant.4, room.long);
+    }
 
 pub layer_line-requires-clause-extended : goal.layer_line-requires-clause-extended
 layer_line-requires-clause-extended c =
     λ g.
-        (c.requires.prepared (graphics-drawn c.requires.all_fit _ c.loop-i-test.true g)).lists.extended _ c.loop-i-test.true g
+    (c.requires.prepared (graphics-drawn c.requires.all_fit _ c.loop-i-test.true g)).lists.extended _ c.loop-i-test.true g
 
 pub overflow_add-i-in-loop-i : goal.overflow_add-i-in-loop-i
 overflow_add-i-in-loop-i c =
@@ -302,14 +301,14 @@ loop-k-preserved c =
     × (length c.if-not-laid-2.row ≡ length c.loop-k.row)
     × (length c.if-not-laid-2.indexes ≡ length c.loop-k.indexes) =
     elim c.if-not-laid-2.branch [
-      then-not-laid-2 w ↦
+      | then-not-laid-2 w ↦
           let r = w.lay_first-i in (
             begun-is _ _ _ _ _ _ _ _ w.i-is w.line-is (begun_first _ _ _ _ _ _ _ _ _ _ _ c.loop-top.invariant.1 r.ensures),
             ap length w.line-is ∙ r.auto.line,
             ap length w.row-is ∙ r.auto.row,
             ap length w.indexes-is ∙ r.auto.indexes,
           )
-    | else-not-laid-2 w ↦ (
+      | else-not-laid-2 w ↦ (
         begun-is _ _ _ _ _ _ _ _ w.i-is w.line-is (c.loop-top.invariant.2 w.if-not-laid-2.false),
         ap length w.line-is,
         ap length w.row-is,

@@ -21,13 +21,13 @@ lay_lines-requires-clause-all_fit c =
 pub lay_lines-requires-clause-prepared : goal.lay_lines-requires-clause-prepared
 lay_lines-requires-clause-prepared c =
     λ drawn. record {
-          scratch = record {
-            wide = omega (arith, c.index_room-indexes.ensures);
-            long = omega (arith, c.pixel_room-row.ensures);
-          };
-          lists = c.extents_of-extents.ensures;
-          first = c.under_first-under.ensures;
-        }
+      scratch = record {
+        wide = omega (arith, c.index_room-indexes.ensures);
+        long = omega (arith, c.pixel_room-row.ensures);
+      };
+      lists = c.extents_of-extents.ensures;
+      first = c.under_first-under.ensures;
+    }
 
 pub lay_lines-requires-2-clause-out_len : goal.lay_lines-requires-2-clause-out_len
 lay_lines-requires-2-clause-out_len c =

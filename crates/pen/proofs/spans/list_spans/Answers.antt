@@ -1,6 +1,5 @@
 -- `list_spans` meets its contract: before each turn the first k instructions have their spans. The measure is the
 -- instructions left. Assumes nothing.
-use Prim.Native.Nat.{◌-◌}
 use native.Mathlib.Omega.{arith}
 use borrow.Author.Rules.{rules}
 use Rattle.pen.proofs.SpanLaws.{spanned-none, spanned-more, spanned-all}

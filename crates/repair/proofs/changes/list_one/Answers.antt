@@ -7,9 +7,8 @@ use Rattle.repair.proofs.changes.list_one.Goals as goal
 
 -- Assumes nothing.
 
-
 pub returns-then-old-new : goal.returns-then-old-new
-returns-then-old-new c = 
+returns-then-old-new c =
     let e = eq-eqb _ _ c.if-old-new.true in
     record {
       value = rw e (omega arith);
@@ -23,7 +22,7 @@ pub bounds-list-at-3 : goal.bounds-list-at-3
 bounds-list-at-3 c = simp length-set (omega arith)
 
 pub returns : goal.returns
-returns c = 
+returns c =
     let e = ne_eqb _ _ c.if-old-new.false in
     record {
       value = rw e;

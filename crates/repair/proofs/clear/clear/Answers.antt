@@ -1,7 +1,6 @@
 -- `repair::clear::clear` meets its contract: the invariant is that the words below i are clear; the measure
 -- is what is left. Assumes nothing.
 use mathlib.Core.Path.{refl}
-use Prim.Native.Nat.{◌-◌}
 use native.Mathlib.Omega.{arith}
 use Rattle.lists.proofs.Upto.{upto-set, upto-none, upto_done}
 use Rattle.repair.specs.Steps.{cleared}

@@ -1,7 +1,6 @@
 -- `repair::depths::free` meets its contract: the invariant is that what is left from d on gives the whole;
 -- the measure is what is left. Assumes nothing.
 use mathlib.Core.Path.{refl, sym, ◌∙◌}
-use Prim.Native.Nat.{◌-◌}
 use Rattle.lists.proofs.Zero.{zero-stops, zero-passes, zero-ends}
 use Rattle.repair.specs.Steps.{free_of}
 use borrow.Author.Rules.{rules}

@@ -1,6 +1,5 @@
 -- `repair::depths::held` meets its contract: the invariant is that no layer below n holds the depth; the
 -- measure is what is left. Assumes nothing.
-use Prim.Native.Nat.{◌-◌}
 use Rattle.lists.proofs.First.{first-none, first_passes, first_stops, first_ends}
 use Rattle.repair.specs.Steps.{held_at}
 use borrow.Author.Rules.{rules}

@@ -1,6 +1,5 @@
 -- `repair::depths::spread` meets its contract: the invariant is that the layers below n had their turn, so
 -- that a depth is free when one is needed; the measure is what is left. Assumes nothing.
-use Prim.Native.Nat.{◌-◌}
 use native.Mathlib.Omega.{arith}
 use Rattle.lists.proofs.Run.{turns-none, turns_next, turns-all}
 use Rattle.repair.specs.Steps as steps

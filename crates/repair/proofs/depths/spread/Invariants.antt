@@ -3,7 +3,6 @@
 use mathlib.Core.Path.{◌≡◌}
 use Prim.Native.Nat.{◌≤◌, ◌-◌}
 use Rattle.lists.specs.Runs.{run}
-use Rattle.repair.specs.Steps as steps
 use Rattle.repair.specs.Steps.{spread_at}
 use Rattle.repair.proofs.depths.spread.Given as goal
 

@@ -9,12 +9,12 @@ use Rattle.repair.proofs.places.fit_at.Goals as goal
 
 pub fit_in-requires : goal.fit_in-requires
 fit_in-requires c = let b = fields-lt c.args.w c.args.n in (
-      search rules,
-      rw c.layer_of-l.ensures b.0,
-      rw c.layer_of-l.ensures b.1,
-      rw c.layer_of-l.ensures b.2,
-      rw c.layer_of-l.ensures b.3,
-    )
+  search rules,
+  rw c.layer_of-l.ensures b.0,
+  rw c.layer_of-l.ensures b.1,
+  rw c.layer_of-l.ensures b.2,
+  rw c.layer_of-l.ensures b.3,
+)
 
 pub returns-then-l : goal.returns-then-l
 unfolding fit_at

@@ -5,12 +5,12 @@ use Rattle.repair.proofs.places.fit_in.Goals as goal
 pub returns : goal.returns
 unfolding fit_in
 returns c = rw (
-      c.with_pair-2.ensures,
-      c.with_pair.ensures,
-      c.size_in-height.ensures.0,
-      c.size_in-width.ensures.0,
-      c.place_in-y.ensures.0,
-      c.place_in-x.ensures.0,
-      c.screen_height-down.ensures,
-      c.screen_width-across.ensures,
-    )
+  c.with_pair-2.ensures,
+  c.with_pair.ensures,
+  c.size_in-height.ensures.0,
+  c.size_in-width.ensures.0,
+  c.place_in-y.ensures.0,
+  c.place_in-x.ensures.0,
+  c.screen_height-down.ensures,
+  c.screen_width-across.ensures,
+)

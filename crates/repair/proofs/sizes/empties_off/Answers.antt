@@ -1,6 +1,5 @@
 -- `repair::sizes::empties_off` meets its contract: the invariant is that the layers below n had their turn;
 -- the measure is what is left. Assumes nothing.
-use Prim.Native.Nat.{◌-◌}
 use native.Mathlib.Omega.{arith}
 use Rattle.lists.proofs.Run.{turns-none, turns_next, turns-all}
 use Rattle.repair.specs.Steps.{empties_off}

@@ -14,10 +14,10 @@ returns-then-width-l c = rw (c.if-l.true, c.if-l-2.false, lt-ltb _ _ c.if-width-
 pub returns-then-l : goal.returns-then-l
 unfolding is_large
 returns-then-l c = rw (
-      c.if-l.true,
-      c.if-l-2.false,
-      le-ltb _ _ c.if-width-l.false,
-    )
+  c.if-l.true,
+  c.if-l-2.false,
+  le-ltb _ _ c.if-width-l.false,
+)
 
 pub returns : goal.returns
 unfolding is_large

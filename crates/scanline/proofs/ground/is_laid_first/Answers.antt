@@ -1,5 +1,5 @@
 -- `scanline::ground::is_laid_first` meets its contract: each `return` is a case of it. Assumes nothing.
-use borrow.Author.Tests.{not-true, not-false, lt-ltb}
+use borrow.Author.Tests.{lt-ltb}
 use native.Mathlib.Omega.{arith}
 use Rattle.scanline.proofs.ground.is_laid_first.Goals as goal
 
@@ -11,6 +11,6 @@ returns-then-count-eq0 c = rw (c.if-not-fresh.false, c.if-count-eq0.true)
 
 pub returns : goal.returns
 returns c = rw (
-      c.if-not-fresh.false,
-      lt-ltb 0 c.args.count (omega (arith, c.if-count-eq0.false)),
-    ) c.is_whole_line.ensures
+  c.if-not-fresh.false,
+  lt-ltb 0 c.args.count (omega (arith, c.if-count-eq0.false)),
+) c.is_whole_line.ensures

@@ -1,11 +1,11 @@
 -- `scanline::ground::lay_drawn` meets its contract: the colour indexes, through colours over the background, are the layer
 -- over it. Assumes nothing.
 use mathlib.Core.Path.{◌≡◌, sym, ap, ◌∙◌}
-use mathlib.Core.List.{List, ◌++◌}
-use Prim.Native.Nat.{ℕ, ◌+◌, ◌*◌, ◌≤◌}
+use mathlib.Core.List.{◌++◌}
+use Prim.Native.Nat.{ℕ, ◌*◌, ◌≤◌}
 use native.Mathlib.Omega.{arith}
 use lib.ListN.{length, take, drop}
-use lib.Seq.{length-take-le, length_front, take_at}
+use lib.Seq.{length-take-le, take_at}
 use Rattle.lists.specs.Tab.{each}
 use Rattle.lists.proofs.Tab.{length-each}
 use Rattle.span.proofs.TintLaws.{grounded-each}
@@ -16,7 +16,6 @@ use Rattle.scanline.proofs.ground.lay_drawn.Goals as goal
 -- ---- what is so of the arguments, before the code
 
 -- ---- the code
-
 
 pub slice_bounds-draw_row-end-2 : goal.slice_bounds-draw_row-end-2
 slice_bounds-draw_row-end-2 c =

@@ -50,6 +50,5 @@ returns-then-is_laid_first c =
 
 -- ---- the ground alone
 
-
 pub returns : goal.returns
 returns c = record { over = λ s l same long of. c.lay_ground.ensures ∙ line-none s _ l _ }

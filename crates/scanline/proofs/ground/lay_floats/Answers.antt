@@ -1,7 +1,7 @@
 -- `scanline::ground::lay_floats` meets its contract: the room holds the row, which is as long as the line. Assumes nothing.
 use mathlib.Core.Path.{◌≡◌, sym, ◌∙◌}
-use mathlib.Core.List.{List, ◌++◌}
-use Prim.Native.Nat.{ℕ, ◌*◌, ◌≤◌}
+use mathlib.Core.List.{◌++◌}
+use Prim.Native.Nat.{◌*◌, ◌≤◌}
 use native.Mathlib.Omega.{arith}
 use lib.ListN.{length, take, drop}
 use lib.Seq.{length-take-le, length_front}
@@ -13,7 +13,6 @@ use Rattle.scanline.proofs.ground.lay_floats.Goals as goal
 -- ---- what is so of the arguments, before the code
 
 -- ---- the code
-
 
 pub overflow_mul-wide : goal.overflow_mul-wide
 overflow_mul-wide c =

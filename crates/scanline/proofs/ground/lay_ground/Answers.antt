@@ -1,5 +1,4 @@
 -- `scanline::ground::lay_ground` meets its contract: a run is kept, or filled. Assumes nothing.
-use borrow.Author.Tests.{not-true, not-false}
 use mathlib.Core.Path.{◌∙◌}
 use Rattle.scanline.proofs.GroundLaws.{ground-kept, ground-filled}
 use Rattle.scanline.proofs.ground.lay_ground.Goals as goal

@@ -16,8 +16,8 @@ lay_drawn-requires-clause-first_drawn c =
 
 pub returns-then-step : goal.returns-then-step
 returns-then-step c = record {
-      over = λ s same long m. c.lay_drawn.ensures.over s same.draws long m;
-    }
+  over = λ s same long m. c.lay_drawn.ensures.over s same.draws long m;
+}
 
 pub lay_floats-requires-clause-on_row : goal.lay_floats-requires-clause-on_row
 lay_floats-requires-clause-on_row c =
@@ -37,8 +37,8 @@ lay_floats-requires-clause-row_flows c =
 
 pub returns-then-step-2 : goal.returns-then-step-2
 returns-then-step-2 c = record {
-      over = λ s same long m. c.lay_floats.ensures.over s same.flows long m;
-    }
+  over = λ s same long m. c.lay_floats.ensures.over s same.flows long m;
+}
 
 pub lay_picture-requires-clause-on_row : goal.lay_picture-requires-clause-on_row
 lay_picture-requires-clause-on_row c =

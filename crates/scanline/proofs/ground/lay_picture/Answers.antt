@@ -17,9 +17,9 @@ slice_bounds-over_ground-end c = omega (arith, c.row_start-from.ensures, c.requi
 
 pub returns : goal.returns
 returns c = record {
-      over = λ s same long m.
-          step-whole s _ _ m c.requires.on_row.0 _
-          (picture-own s _ _ m _ _ same c.row_start-from.ensures
-          c.requires.on_row.2 c.requires.on_row.3) _ _ long
-          (c.requires.on_row.1 ∙ sym (length-each _ _)) c.over_ground.ensures;
-    }
+  over = λ s same long m.
+      step-whole s _ _ m c.requires.on_row.0 _
+      (picture-own s _ _ m _ _ same c.row_start-from.ensures
+      c.requires.on_row.2 c.requires.on_row.3) _ _ long
+      (c.requires.on_row.1 ∙ sym (length-each _ _)) c.over_ground.ensures;
+}

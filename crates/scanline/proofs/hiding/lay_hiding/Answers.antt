@@ -1,7 +1,6 @@
 -- `scanline::hiding::lay_hiding` meets its contract: a layer that is turned away promises nothing, and the row of any
 -- other lies among the pictures, as long as the line. Assumes nothing.
 use borrow.Author.Rules.{rules}
-use borrow.Author.Tests.{not-false}
 use mathlib.Core.Path.{sym, ◌∙◌}
 use Prim.Native.Nat.{◌+◌, ◌*◌, ◌≤◌}
 use native.Mathlib.Omega.{arith}

@@ -1,7 +1,6 @@
 -- `scanline::hiding::lay_opaque` meets its contract: with each pixel at its own alpha the run tells, with one alpha that
 -- does. Assumes nothing.
 use borrow.Author.Rules.{rules}
-use borrow.Author.Tests.{not-true, not-false}
 use mathlib.Core.Path.{refl, ap, ◌∙◌}
 use Rattle.lists.specs.Tab.{each}
 use Rattle.span.proofs.OverLaws.{over-own}
@@ -20,6 +19,6 @@ returns-then-alpha-ne-OPAQUE c = λ e. absurd (search rules)
 
 pub returns : goal.returns
 returns c = λ e. rw (
-      c.if-not-global.false,
-      c.if-alpha-ne-OPAQUE.false,
-    ) (record { opaque = λ u h. refl; over = c.lay_either.ensures ∙ ap (each _) (ground-filled _ _) })
+  c.if-not-global.false,
+  c.if-alpha-ne-OPAQUE.false,
+) (record { opaque = λ u h. refl; over = c.lay_either.ensures ∙ ap (each _) (ground-filled _ _) })

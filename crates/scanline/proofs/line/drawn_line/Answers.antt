@@ -1,11 +1,11 @@
 -- `scanline::line::drawn_line` meets its contract: the layer's part of the line lies on it, the room holds the longest row,
 -- and what was drawn there are the layer's colour indexes. Assumes nothing.
 use mathlib.Core.Path.{◌≡◌, sym, ap, ◌∙◌}
-use mathlib.Core.List.{List, ◌++◌}
+use mathlib.Core.List.{◌++◌}
 use Prim.Native.Nat.{ℕ, ◌+◌, ◌*◌, ◌≤◌}
 use native.Mathlib.Omega.{arith}
 use lib.ListN.{length, take, drop}
-use lib.Seq.{length-take-le, length_front, take_at}
+use lib.Seq.{length-take-le, take_at}
 use Rattle.plan.proofs.PartLaws.{length-lent}
 use Rattle.scanline.proofs.LineLaws.{graphics-own, step-over}
 use Rattle.scanline.proofs.line.drawn_line.Goals as goal
@@ -13,7 +13,6 @@ use Rattle.scanline.proofs.line.drawn_line.Goals as goal
 -- ---- what is so of the arguments, before the code
 
 -- ---- the code
-
 
 pub slice_bounds-draw_row-end-2 : goal.slice_bounds-draw_row-end-2
 slice_bounds-draw_row-end-2 c =

@@ -1,8 +1,8 @@
 -- `scanline::line::float_line` meets its contract: the layer's part of the line lies on it, the room holds the longest row,
 -- and what was made there is the layer's row. Assumes nothing.
 use mathlib.Core.Path.{◌≡◌, sym, ◌∙◌}
-use mathlib.Core.List.{List, ◌++◌}
-use Prim.Native.Nat.{ℕ, ◌+◌, ◌*◌, ◌≤◌}
+use mathlib.Core.List.{◌++◌}
+use Prim.Native.Nat.{◌+◌, ◌*◌, ◌≤◌}
 use native.Mathlib.Omega.{arith}
 use lib.ListN.{length, take, drop}
 use lib.Seq.{length-take-le, length_front}
@@ -13,7 +13,6 @@ use Rattle.scanline.proofs.line.float_line.Goals as goal
 -- ---- what is so of the arguments, before the code
 
 -- ---- the code
-
 
 pub slice_bounds-float_row-end-2 : goal.slice_bounds-float_row-end-2
 slice_bounds-float_row-end-2 c =

@@ -1,6 +1,5 @@
 -- `scanline::line::layer_line` meets its contract: beside the line the layer changes nothing; on it each kind
 -- of layer has its own worker. Assumes nothing.
-use borrow.Author.Tests.{not-true, not-false}
 use mathlib.Core.Path.{sym, ◌∙◌}
 use Rattle.scanline.specs.Engine.Lines.{OnRow}
 use Rattle.plan.proofs.PlanLaws.{made-graphics, made-floats}

@@ -15,9 +15,9 @@ slice_bounds-over-end-2 c = omega (arith, c.row_start-from.ensures, c.requires.w
 
 pub returns : goal.returns
 returns c = record {
-      over = λ s same long m.
-          step-over s _ _ m c.requires.on_row.0 _
-          (picture-own s _ _ m _ _ same c.row_start-from.ensures
-          c.requires.on_row.2 c.requires.on_row.3) _ _ long
-          c.over.ensures;
-    }
+  over = λ s same long m.
+      step-over s _ _ m c.requires.on_row.0 _
+      (picture-own s _ _ m _ _ same c.row_start-from.ensures
+      c.requires.on_row.2 c.requires.on_row.3) _ _ long
+      c.over.ensures;
+}

@@ -15,7 +15,7 @@ slice_bounds-to_bytes-end c = omega (arith, c.row_start-from.ensures, c.requires
 
 pub returns : goal.returns
 returns c = record {
-      own = λ s same m.
-          float_own s _ _ m _ _ _ same c.row_start-from.ensures c.requires.graphics_value.0
-          c.requires.graphics_value.1 c.to_bytes.ensures;
-    }
+  own = λ s same m.
+      float_own s _ _ m _ _ _ same c.row_start-from.ensures c.requires.graphics_value.0
+      c.requires.graphics_value.1 c.to_bytes.ensures;
+}

@@ -1,6 +1,5 @@
 -- `sixteen::lanes::mixed` meets its contract: the loop has filled the first k words as the contract
 -- says; the measure is what is left. Assumes nothing.
-use Prim.Native.Nat.{◌-◌}
 use borrow.Author.Rules.{rules}
 use Rattle.sixteen.proofs.LaneLaws.{filled_none, filled-done, mix-lane}
 use Rattle.sixteen.proofs.lanes.mixed.Goals as goal

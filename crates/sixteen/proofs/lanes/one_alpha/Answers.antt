@@ -1,6 +1,5 @@
 -- `sixteen::lanes::one_alpha` meets its contract: the loop has filled the first k words as the
 -- contract says; the measure is what is left. Assumes nothing.
-use Prim.Native.Nat.{◌-◌}
 use borrow.Author.Rules.{rules}
 use Rattle.sixteen.proofs.LaneLaws.{filled_none, filled-done, filled-turn}
 use Rattle.sixteen.proofs.lanes.one_alpha.Goals as goal

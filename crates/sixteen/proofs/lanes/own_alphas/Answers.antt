@@ -1,6 +1,5 @@
 -- `sixteen::lanes::own_alphas` meets its contract: the loop has filled both words of the first k
 -- pixels; the measure is what is left. Assumes nothing.
-use Prim.Native.Nat.{◌-◌}
 use borrow.Author.Rules.{rules}
 use Rattle.sixteen.proofs.LaneLaws.{filled_none, filled-both, high-lanes}
 use Rattle.sixteen.proofs.lanes.own_alphas.Goals as goal

@@ -1,6 +1,5 @@
 -- `sixteen::lanes::store` meets its contract: the loop has stored the bytes of the first k words, a
 -- part of `out` from `at` on; the measure is what is left. Assumes nothing.
-use Prim.Native.Nat.{◌-◌}
 use native.Mathlib.Omega.{arith}
 use lib.ListN.{length-set}
 use borrow.Author.Rules.{rules}

@@ -1,6 +1,5 @@
 -- `sixteen::pixels::all_clear` meets its contract: all pixels so far are no more than what they are joined to.
 -- The measure is what is left. Assumes nothing.
-use Prim.Native.Nat.{◌-◌}
 use borrow.Author.Rules.{rules}
 use borrow.Author.Tests.{ltb-true}
 use Rattle.sixteen.proofs.LaneLaws.{lanes-none, most-turn, most-clear}

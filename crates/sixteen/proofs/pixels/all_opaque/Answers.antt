@@ -1,6 +1,5 @@
 -- `sixteen::pixels::all_opaque` meets its contract: all pixels so far are no less than what they have in common.
 -- The measure is what is left. Assumes nothing.
-use Prim.Native.Nat.{◌-◌}
 use borrow.Author.Rules.{rules}
 use borrow.Author.Tests.{leb-true}
 use Rattle.sixteen.proofs.LaneLaws.{lanes-none, least-turn, least-opaque}

@@ -1,6 +1,5 @@
 -- `sixteen::pixels::halves` meets its contract: the loop has filled both words of the first k pixels;
 -- the measure is what is left. Assumes nothing.
-use Prim.Native.Nat.{◌-◌}
 use borrow.Author.Rules.{rules}
 use Rattle.sixteen.proofs.LaneLaws.{filled_none, filled-both, half-lanes}
 use Rattle.sixteen.proofs.pixels.halves.Goals as goal

@@ -1,6 +1,5 @@
 -- `sixteen::pixels::repeated` meets its contract: the loop has filled the first k pixels as the
 -- contract says; the measure is what is left. Assumes nothing.
-use Prim.Native.Nat.{◌-◌}
 use borrow.Author.Rules.{rules}
 use Rattle.sixteen.proofs.LaneLaws.{filled_none, filled-done, filled-turn}
 use Rattle.sixteen.proofs.pixels.repeated.Goals as goal

@@ -5,6 +5,6 @@ use Rattle.span.proofs.blocks.put16.Goals as goal
 
 pub returns : goal.returns
 returns c = record {
-      over = λ s ep. copy-block _ _ _ (search rules) ep c.pixels-q.ensures c.joined-w.ensures
-          c.halves-h.ensures c.store.ensures;
-    }
+  over = λ s ep. copy-block _ _ _ (search rules) ep c.pixels-q.ensures c.joined-w.ensures
+      c.halves-h.ensures c.store.ensures;
+}

@@ -8,6 +8,6 @@ returns-then-over-i-lt-BLOCK_LEN c = λ e. absurd (search rules)
 
 pub returns : goal.returns
 returns c = λ e. record {
-      fits = search rules;
-      opaque = alpha-all c.pixels-p.ensures c.all_opaque.ensures e;
-    }
+  fits = search rules;
+  opaque = alpha-all c.pixels-p.ensures c.all_opaque.ensures e;
+}

@@ -1,6 +1,5 @@
 -- `span::grounds::lay_flat_blocks` meets its contract: the loop has laid a part of the run, from its front up
 -- to i; the measure is what is left. Assumes nothing.
-use Prim.Native.Nat.{◌-◌}
 use borrow.Author.Rules.{rules}
 use Rattle.sixteen.proofs.PartLaws.{front-none}
 use Rattle.span.proofs.GroundLaws.{lay-turn}

@@ -1,9 +1,7 @@
 -- `span::grounds::lay_mixed` meets its contract: the loop has laid a part of the run, from `from` up to i, where another
 -- block begins; the measure is what is left. Assumes nothing.
 use borrow.Author.Rules.{rules}
-use Prim.Native.Nat.{◌-◌}
 use native.Mathlib.Omega.{arith}
-use borrow.Author.Tests.{not-false}
 use Rattle.sixteen.proofs.LaneLaws.{high_small}
 use Rattle.sixteen.proofs.PartLaws.{reach-none}
 use Rattle.span.proofs.GroundLaws.{mixed-more}

@@ -1,9 +1,7 @@
 -- `span::grounds::lay_opaque` meets its contract: the loop has laid a part of the run, from `from` up to i, where an
 -- opaque block begins; the measure is what is left. Assumes nothing.
 use borrow.Author.Rules.{rules}
-use Prim.Native.Nat.{◌-◌}
 use native.Mathlib.Omega.{arith}
-use borrow.Author.Tests.{not-false}
 use Rattle.sixteen.proofs.PartLaws.{reach-none}
 use Rattle.span.proofs.GroundLaws.{opaque-more}
 use Rattle.span.proofs.grounds.lay_opaque.Goals as goal

@@ -17,11 +17,11 @@ returns-then-over-i c = λ e. absurd (search rules)
 
 pub loop-i-preserved : goal.loop-i-preserved
 loop-i-preserved c = let i = c.loop-i.invariant in let h = c.loop-i-test.true in (
-      omega (arith, i.0),
-      omega (arith, i.2, h, c.requires.0),
-      omega (arith, i.2),
-      alpha-next _ _ _ i.0 c.requires.2 i.2 i.3 c.if-over-i.false,
-    )
+  omega (arith, i.0),
+  omega (arith, i.2, h, c.requires.0),
+  omega (arith, i.2),
+  alpha-next _ _ _ i.0 c.requires.2 i.2 i.3 c.if-over-i.false,
+)
 
 pub returns : goal.returns
 returns c = λ e. let i = c.loop-i.invariant in let z : c.loop-i.i ≡ length c.args.over.now = omega (arith, i.1, c.loop-i-test.false) in

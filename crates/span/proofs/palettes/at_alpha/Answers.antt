@@ -1,7 +1,6 @@
 -- `span::palettes::at_alpha` meets its contract: the loop has filled the first k colours; the measure is what is left.
 -- Assumes nothing.
 use borrow.Author.Rules.{rules}
-use Prim.Native.Nat.{◌-◌}
 use Rattle.sixteen.proofs.LaneLaws.{filled_none, filled-done, filled-turn}
 use Rattle.span.proofs.palettes.at_alpha.Goals as goal
 

@@ -1,6 +1,5 @@
 -- `span::runs::copy_blocks` meets its contract: the loop has done a part of the run, from its front
 -- up to i; the measure is what is left. Assumes nothing.
-use Prim.Native.Nat.{◌-◌}
 use borrow.Author.Rules.{rules}
 use Rattle.sixteen.proofs.PartLaws.{block-turn, front-none}
 use Rattle.span.proofs.runs.copy_blocks.Goals as goal

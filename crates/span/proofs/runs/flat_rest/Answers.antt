@@ -1,6 +1,5 @@
 -- `span::runs::flat_rest` meets its contract: the loop has done a part of the run, from `from` up
 -- to i; the measure is what is left. Assumes nothing.
-use Prim.Native.Nat.{◌-◌}
 use borrow.Author.Rules.{rules}
 use Rattle.sixteen.proofs.PartLaws.{pixel-turn, reach-end, reach-none}
 use Rattle.span.proofs.runs.flat_rest.Goals as goal

@@ -1,7 +1,6 @@
 -- `span::runs::own_blocks` meets its contract: the loop has done a part of the run, from its front up to i; the measure
 -- is what is left. Assumes nothing.
 use borrow.Author.Rules.{rules}
-use Prim.Native.Nat.{◌-◌}
 use Rattle.sixteen.proofs.PartLaws.{front-none}
 use Rattle.span.proofs.OverParts.{stretch-then}
 use Rattle.span.proofs.runs.own_blocks.Goals as goal

@@ -1,7 +1,6 @@
 -- `span::tints::colours16` meets its contract: the loop has filled the first k colours; the measure is what is left.
 -- Assumes nothing.
 use borrow.Author.Rules.{rules}
-use Prim.Native.Nat.{◌-◌}
 use Rattle.sixteen.proofs.LaneLaws.{filled_none, filled-done}
 use Rattle.span.proofs.TintLaws.{colour-lane}
 use Rattle.span.proofs.tints.colours16.Goals as goal

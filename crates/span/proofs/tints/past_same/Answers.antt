@@ -1,7 +1,6 @@
 -- `span::tints::past_same` meets its contract: the indexes from `from` up to j are one; the measure is what is left.
 -- Assumes nothing.
 use borrow.Author.Rules.{rules}
-use Prim.Native.Nat.{◌-◌}
 use native.Mathlib.Omega.{arith}
 use Rattle.span.proofs.TintLaws.{same_none, same_more}
 use Rattle.span.proofs.tints.past_same.Goals as goal

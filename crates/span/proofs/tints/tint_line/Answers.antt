@@ -1,7 +1,6 @@
 -- `span::tints::tint_line` meets its contract: the loop has done the indexes up to j; the measure is what is left. Assumes
 -- nothing.
 use borrow.Author.Rules.{rules}
-use Prim.Native.Nat.{◌-◌}
 use Rattle.sixteen.proofs.PartLaws.{front-none}
 use Rattle.span.proofs.OverParts.{stretch-then}
 use Rattle.span.proofs.tints.tint_line.Goals as goal

@@ -1,7 +1,6 @@
 -- `span::tints::tint_rest` meets its contract: the loop has done the pixels of the indexes from `from` up to j; the measure
 -- is what is left. Assumes nothing.
 use borrow.Author.Rules.{rules}
-use Prim.Native.Nat.{◌-◌}
 use native.Mathlib.Omega.{arith}
 use Rattle.sixteen.proofs.PartLaws.{part-to, reach-none}
 use Rattle.span.proofs.TintLaws.{pixel-more}

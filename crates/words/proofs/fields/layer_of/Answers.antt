@@ -6,14 +6,14 @@ use Rattle.words.proofs.fields.layer_of.Goals as goal
 pub returns : goal.returns
 unfolding layer_of
 returns c = rw (
-      c.upper-2.ensures,
-      c.lower-2.ensures,
-      c.upper.ensures,
-      c.lower.ensures,
-      c.layer_word-fade.ensures,
-      c.layer_word-start.ensures,
-      c.layer_word-size.ensures,
-      c.layer_word-place.ensures,
-      c.layer_word-alpha.ensures,
-      c.layer_word-kind.ensures,
-    )
+  c.upper-2.ensures,
+  c.lower-2.ensures,
+  c.upper.ensures,
+  c.lower.ensures,
+  c.layer_word-fade.ensures,
+  c.layer_word-start.ensures,
+  c.layer_word-size.ensures,
+  c.layer_word-place.ensures,
+  c.layer_word-alpha.ensures,
+  c.layer_word-kind.ensures,
+)

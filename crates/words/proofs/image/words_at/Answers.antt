@@ -2,7 +2,6 @@
 -- is what is left. Assumes nothing.
 use borrow.Author.Rules.{rules}
 use mathlib.Core.Path.{refl}
-use Prim.Native.Nat.{◌-◌}
 use native.Mathlib.Omega.{arith}
 use Rattle.lists.proofs.Upto.{upto-none, upto-set, upto_done}
 use Rattle.words.specs.Image.{words_from}
