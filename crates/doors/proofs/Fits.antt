@@ -1,14 +1,14 @@
 -- Every state out of bytes fits its words, and every call keeps it so, where the call's own numbers fit
 -- theirs. Assumes nothing.
-use mathlib.Core.Path.{◌≡◌, refl, ap, ◌∙◌}
+use mathlib.Core.Path.{◌≡◌, refl, ◌∙◌}
 use mathlib.Core.Logic.{⊎_elim}
-use mathlib.Core.Bool.{Bool, true}
+use mathlib.Core.Bool.{true}
 use mathlib.Core.List.{List}
-use Prim.Native.Nat.{ℕ, zero, suc, ◌+◌, ◌*◌, ◌/◌, ◌%◌, ◌^◌, ◌≤◌, ◌<◌}
+use Prim.Native.Nat.{ℕ, zero, suc, ◌+◌, ◌*◌, ◌/◌, ◌^◌, ◌<◌}
 use native.Mathlib.Omega.{arith}
 use native.Mathlib.Nat.{mod-lt}
 use borrow.Author.Tests.{ltb-true, eqb-true}
-use lib.Bits.{bit_or, bit_xor, or_lt, xor_lt}
+use lib.Bits.{or_lt, xor_lt}
 use lib.Pow.{pow-lt, pow_pos}
 use lib.Dec.{ltb, eqb}
 use lib.Ieee.{Float}
@@ -37,7 +37,7 @@ use Rattle.frames.specs.Line.{line_refusal_of, line_errors_after}
 use Rattle.display.specs.declared.Display.{Display}
 use Rattle.display.specs.declared.Told.{Told}
 use Rattle.display.specs.State.{bits_in, fresh, new_of, with_pending, with_active, with_frame, with_errors, with_selection}
-use Rattle.display.specs.State.{stepped, write_of, select_of, toggle_of, check_in, start_of}
+use Rattle.display.specs.State.{stepped, write_of, select_of, check_in, start_of}
 use Rattle.display.specs.Put.{put_answer, put_state, put_of}
 use Rattle.display.specs.Runs.{lent, put_one, puts, put_run_of, write_one, writes, write_run_of}
 use Rattle.display.specs.Paint.{scene_with, fill_told, paint_told, frame_told, line_told}

@@ -2,6 +2,7 @@
 // definitions of the crates below. The code is two calls whose promise is a law itself: that lent buffers
 // are of bytes is known by their types, so only a function can use it.
 #![tactic(auto)]
+
 ghost use Rattle.std.specs.Prelude.{◌≡◌};
 ghost use Rattle.display.specs.Paint.{scene_with};
 ghost use Rattle.display.specs.Reached.{Arranged};
