@@ -6,37 +6,38 @@ use crate::buffers;
 use crate::print::figure;
 use crate::screen::{screen, started, written};
 use display::Display;
+use std::io;
 
-fn blend(name: &[u8], a: u8, over: u8, under: u8) {
-    figure(name, mix::blend(a, over, under) as u32);
+fn blend(rt: &impl Print, name: &[u8], a: u8, over: u8, under: u8) -> io::Result<()> {
+    figure(rt, name, mix::blend(a, over, under) as u32)
 }
 
-fn show_blend() {
-    blend(b"blend 128 255 0: ", 128, 255, 0);
-    blend(b"blend 127 255 0: ", 127, 255, 0);
-    blend(b"blend 128 1 0: ", 128, 1, 0);
-    blend(b"blend 127 1 0: ", 127, 1, 0);
-    blend(b"blend 85 200 100: ", 85, 200, 100);
-    blend(b"blend 1 0 255: ", 1, 0, 255);
-    blend(b"blend 0 9 77: ", 0, 9, 77);
-    blend(b"blend 255 9 77: ", 255, 9, 77);
+fn show_blend(rt: &impl Print) -> io::Result<()> {
+    blend(rt, b"blend 128 255 0: ", 128, 255, 0)?;
+    blend(rt, b"blend 127 255 0: ", 127, 255, 0)?;
+    blend(rt, b"blend 128 1 0: ", 128, 1, 0)?;
+    blend(rt, b"blend 127 1 0: ", 127, 1, 0)?;
+    blend(rt, b"blend 85 200 100: ", 85, 200, 100)?;
+    blend(rt, b"blend 1 0 255: ", 1, 0, 255)?;
+    blend(rt, b"blend 0 9 77: ", 0, 9, 77)?;
+    blend(rt, b"blend 255 9 77: ", 255, 9, 77)
 }
 
 // From 0 to 255 over 4 frames.
-fn fade_up(name: &[u8], start: u32, frame: u32) {
-    figure(name, mix::fade(0, 255, 4, start, frame) as u32);
+fn fade_up(rt: &impl Print, name: &[u8], start: u32, frame: u32) -> io::Result<()> {
+    figure(rt, name, mix::fade(0, 255, 4, start, frame) as u32)
 }
 
-fn show_fade() {
-    fade_up(b"fade at 99: ", 100, 99);
-    fade_up(b"fade at 101: ", 100, 101);
-    fade_up(b"fade at 102: ", 100, 102);
-    fade_up(b"fade at 103: ", 100, 103);
-    fade_up(b"fade at 104: ", 100, 104);
-    fade_up(b"fade over the wrap: ", 4294967294, 0);
-    figure(b"fade of 3, e 1: ", mix::fade(255, 0, 3, 0, 1) as u32);
-    fade_up(b"fade at e 2147483647: ", 0, 2147483647);
-    fade_up(b"fade at e 2147483648: ", 0, 2147483648);
+fn show_fade(rt: &impl Print) -> io::Result<()> {
+    fade_up(rt, b"fade at 99: ", 100, 99)?;
+    fade_up(rt, b"fade at 101: ", 100, 101)?;
+    fade_up(rt, b"fade at 102: ", 100, 102)?;
+    fade_up(rt, b"fade at 103: ", 100, 103)?;
+    fade_up(rt, b"fade at 104: ", 100, 104)?;
+    fade_up(rt, b"fade over the wrap: ", 4294967294, 0)?;
+    figure(rt, b"fade of 3, e 1: ", mix::fade(255, 0, 3, 0, 1) as u32)?;
+    fade_up(rt, b"fade at e 2147483647: ", 0, 2147483647)?;
+    fade_up(rt, b"fade at e 2147483648: ", 0, 2147483648)
 }
 
 // Puts bytes into a table, from its first on.
@@ -76,20 +77,20 @@ fn start_box(state: Display) -> Display
 }
 
 // A byte of the frame with the box. Channel 0 of a pixel is 7 where it is drawn.
-fn show_byte(name: &[u8], weight: u8, at: usize) {
+fn show_byte(rt: &impl Print, name: &[u8], weight: u8, at: usize) -> io::Result<()> {
     let mut tables = buffers::tables();
     let none: [f32; 0] = [];
     let mut out = [0u8; 128];
     let loaded = load_box(screen(4 * 65536 + 8), &mut tables, weight);
     start_box(loaded).frame(&tables, b"", &none, &mut out);
-    figure(name, buffers::byte_at(&out, at) as u32);
+    figure(rt, name, buffers::byte_at(&out, at) as u32)
 }
 
-fn show_box() {
-    show_byte(b"box weight 1 at 3 2: ", 1, 4 * (8 * 2 + 3));
-    show_byte(b"box weight 1 at 2 2: ", 1, 4 * (8 * 2 + 2));
-    show_byte(b"box weight 1 at 6 3: ", 1, 4 * (8 * 3 + 6));
-    show_byte(b"box weight 2 at 3 2: ", 2, 4 * (8 * 2 + 3));
+fn show_box(rt: &impl Print) -> io::Result<()> {
+    show_byte(rt, b"box weight 1 at 3 2: ", 1, 4 * (8 * 2 + 3))?;
+    show_byte(rt, b"box weight 1 at 2 2: ", 1, 4 * (8 * 2 + 2))?;
+    show_byte(rt, b"box weight 1 at 6 3: ", 1, 4 * (8 * 3 + 6))?;
+    show_byte(rt, b"box weight 2 at 3 2: ", 2, 4 * (8 * 2 + 3))
 }
 
 // Layer 0 at x 1900 of a screen that is 1920 wide, started.
@@ -101,9 +102,17 @@ fn start_with_width(width: u32) -> u8 {
     d.answer
 }
 
-fn show_start() {
-    figure(b"x 1900, width 20: ", start_with_width(65536 + 20) as u32);
-    figure(b"x 1900, width 21: ", start_with_width(65536 + 21) as u32);
+fn show_start(rt: &impl Print) -> io::Result<()> {
+    figure(
+        rt,
+        b"x 1900, width 20: ",
+        start_with_width(65536 + 20) as u32,
+    )?;
+    figure(
+        rt,
+        b"x 1900, width 21: ",
+        start_with_width(65536 + 21) as u32,
+    )
 }
 
 // Frame layers of 3 by 2 and 1 by 1 pixels painted with that many picture bytes.
@@ -119,28 +128,36 @@ fn paint_with(pictures: &[u8]) -> u8 {
     e.answer
 }
 
-fn show_pictures() {
+fn show_pictures(rt: &impl Print) -> io::Result<()> {
     let pictures = [0u8; 29];
-    figure(b"28 picture bytes: ", paint_with(&pictures[..28]) as u32);
-    figure(b"27 picture bytes: ", paint_with(&pictures[..27]) as u32);
-    figure(b"29 picture bytes: ", paint_with(&pictures) as u32);
+    figure(
+        rt,
+        b"28 picture bytes: ",
+        paint_with(&pictures[..28]) as u32,
+    )?;
+    figure(
+        rt,
+        b"27 picture bytes: ",
+        paint_with(&pictures[..27]) as u32,
+    )?;
+    figure(rt, b"29 picture bytes: ", paint_with(&pictures) as u32)
 }
 
-fn show_toggle() {
+fn show_toggle(rt: &impl Print) -> io::Result<()> {
     let a = Display::new(1, false);
     let b = a.state.toggle(17);
-    figure(b"error word: ", b.state.error_word());
+    figure(rt, b"error word: ", b.state.error_word())?;
     let c = b.state.toggle(16);
-    figure(b"toggled by 16: ", c.state.error_word());
+    figure(rt, b"toggled by 16: ", c.state.error_word())?;
     let d = c.state.toggle(16);
-    figure(b"and again: ", d.state.error_word());
+    figure(rt, b"and again: ", d.state.error_word())
 }
 
-pub fn show() {
-    show_blend();
-    show_fade();
-    show_box();
-    show_start();
-    show_pictures();
-    show_toggle();
+pub fn show(rt: &impl Print) -> io::Result<()> {
+    show_blend(rt)?;
+    show_fade(rt)?;
+    show_box(rt)?;
+    show_start(rt)?;
+    show_pictures(rt)?;
+    show_toggle(rt)
 }

@@ -7,6 +7,7 @@ use crate::checksum::{NONE, checksum, with_byte};
 use crate::screen::{GLOBAL, covered_screen, started, written};
 use crate::{buffers, print};
 use display::Display;
+use std::io;
 
 const SIZE: u32 = 86 * 65536 + 256;
 
@@ -90,22 +91,19 @@ fn called(alpha: u8) -> u32 {
 
 // Four checksums: the alpha is each pixel's own; it is the layer's, and the pixels' own is another;
 // it is the first pixel's, and the next pixel's is one more; `mix::blend` alone.
-pub fn show(alpha: u8) {
+pub fn show(rt: &impl Print, alpha: u8) -> io::Result<()> {
     let tables = buffers::tables();
     let mut pictures = pixels();
     let mut out = pixels();
     let global = GLOBAL + alpha as u32;
-    print::letter(b'M');
-    print::column(alpha as u32, 2);
-    print::column(
-        painted(0, alpha, false, &tables, &mut pictures, &mut out),
-        8,
-    );
-    print::column(
-        painted(global, 255 - alpha, false, &tables, &mut pictures, &mut out),
-        8,
-    );
-    print::column(painted(0, alpha, true, &tables, &mut pictures, &mut out), 8);
-    print::column(called(alpha), 8);
-    print::end_line();
+    print::letter(rt, b'M')?;
+    print::column(rt, alpha as u32, 2)?;
+    let own = painted(0, alpha, false, &tables, &mut pictures, &mut out);
+    print::column(rt, own, 8)?;
+    let layers = painted(global, 255 - alpha, false, &tables, &mut pictures, &mut out);
+    print::column(rt, layers, 8)?;
+    let mixed = painted(0, alpha, true, &tables, &mut pictures, &mut out);
+    print::column(rt, mixed, 8)?;
+    print::column(rt, called(alpha), 8)?;
+    print::end_line(rt)
 }

@@ -1,6 +1,6 @@
 // The buffers that are lent, and ways to fill them. Arrays are made by functions that name their
 // length, so that no proof writes their zeros out.
-ghost use Rattle.std.specs.Prelude.{◌≡◌, ◌≤◌, length, take};
+ghost use Rattle.std.specs.Prelude.{◌≡◌, ◌≤◌, min, length, take};
 
 // The tables of one bit a glyph pixel.
 pub fn tables() -> [u8; 29696]
@@ -144,6 +144,18 @@ pub fn set_float(floats: &mut [f32], at: u32, bits: u32) {
     if i < floats.len() {
         floats[i] = float_of(bits);
     }
+}
+
+// So many of the bytes, or all where there are fewer.
+pub fn count_bytes(number: u32, bytes: &[u8]) -> usize
+    ensures within { (result ≤ length bytes.now) × (result ≡ length (take result bytes.now)) }
+    ensures value { result ≡ min number (length bytes.now) }
+{
+    let n = number as usize;
+    if n > bytes.len() {
+        return bytes.len();
+    }
+    n
 }
 
 // So many of the numbers, or all where there are fewer.

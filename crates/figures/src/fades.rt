@@ -6,6 +6,7 @@ use crate::checksum::{NONE, with_byte};
 use crate::screen::{GLOBAL, covered_screen, started, written};
 use crate::{buffers, print};
 use display::Display;
+use std::io;
 
 const CASES: usize = 6 * 6 * 3 * 16 * 6;
 
@@ -96,11 +97,11 @@ fn painted_sum(length: u16, tables: &[u8]) -> u32 {
 }
 
 // Two checksums: by `mix::fade`, and as painted.
-pub fn show(length: u16) {
+pub fn show(rt: &impl Print, length: u16) -> io::Result<()> {
     let tables = buffers::tables();
-    print::letter(b'E');
-    print::column(length as u32, 4);
-    print::column(called_sum(length), 8);
-    print::column(painted_sum(length, &tables), 8);
-    print::end_line();
+    print::letter(rt, b'E')?;
+    print::column(rt, length as u32, 4)?;
+    print::column(rt, called_sum(length), 8)?;
+    print::column(rt, painted_sum(length, &tables), 8)?;
+    print::end_line(rt)
 }

@@ -1,5 +1,10 @@
 // Prints the bench figures of document 01, and then does what the script on standard input asks of
-// a display and its buffers, a line a record. The second display works out the same lines.
+// a display and its buffers, a line a record. The second display works out the same lines. A read or a write
+// that fails ends the program.
+#![tactic(auto)]
+
+use std::io;
+
 mod bench;
 mod blends;
 mod buffers;
@@ -11,11 +16,11 @@ mod screen;
 mod script;
 mod stage;
 
-fn main() {
-    bench::show();
+fn main(rt: HostRuntime) -> io::Result<()> {
+    bench::show(&rt)?;
     let mut tables = buffers::roomy_tables();
     let mut pictures = buffers::pixels();
     let mut floats = buffers::float_pixels();
     let mut out = buffers::pixels();
-    script::run(&mut tables, &mut pictures, &mut floats, &mut out);
+    script::run(&rt, &mut tables, &mut pictures, &mut floats, &mut out)
 }

@@ -73,7 +73,7 @@ fn put(state: Display, tables: &mut [u8], lent: Lent, byte: u8) -> Told
     requires { Arranged state }
     ensures { Arranged result.state }
 {
-    let n = io::count(lent.tables as isize, tables);
+    let n = buffers::count_bytes(lent.tables, tables);
     state.put(&mut tables[..n], byte)
 }
 
@@ -96,8 +96,8 @@ fn put_run(state: Display, tables: &mut [u8], lent: Lent, bytes: &[u8], length: 
     requires { Arranged state }
     ensures { Arranged result.state }
 {
-    let t = io::count(lent.tables as isize, tables);
-    let n = io::count(length as isize, bytes);
+    let t = buffers::count_bytes(lent.tables, tables);
+    let n = buffers::count_bytes(length, bytes);
     state.put_run(&mut tables[..t], &bytes[..n])
 }
 
@@ -106,7 +106,7 @@ fn write_run(state: Display, bytes: &[u8], length: u32) -> Ran
     requires { Arranged state }
     ensures { Arranged result.state }
 {
-    let n = io::count(length as isize, bytes);
+    let n = buffers::count_bytes(length, bytes);
     state.write_run(&bytes[..n])
 }
 
@@ -114,7 +114,7 @@ fn fill(state: Display, out: &mut [u8], lent: Lent) -> Told
     requires { Arranged state }
     ensures { Arranged result.state }
 {
-    let n = io::count(lent.out as isize, out);
+    let n = buffers::count_bytes(lent.out, out);
     state.fill(&mut out[..n])
 }
 
@@ -132,7 +132,7 @@ fn paint(
     requires { Arranged state }
     ensures { Arranged result.state }
 {
-    let n = io::count(length as isize, out);
+    let n = buffers::count_bytes(length, out);
     state.paint(low, high, tables, pictures, floats, &mut out[..n])
 }
 
@@ -148,7 +148,7 @@ fn frame(
     requires { Arranged state }
     ensures { Arranged result.state }
 {
-    let n = io::count(length as isize, out);
+    let n = buffers::count_bytes(length, out);
     state.frame(tables, pictures, floats, &mut out[..n])
 }
 
@@ -165,7 +165,7 @@ fn line(
     requires { Arranged state }
     ensures { Arranged result.state }
 {
-    let n = io::count(length as isize, out);
+    let n = buffers::count_bytes(length, out);
     state.line(y, tables, pictures, floats, &mut out[..n])
 }
 
@@ -187,7 +187,7 @@ fn paint_once(
         b'B' => paint(state, r.a, r.b, tables, pictures, floats, out, length),
         b'R' => frame(state, tables, pictures, floats, out, length),
         _ => {
-            let at = io::count(r.b as isize, out);
+            let at = buffers::count_bytes(r.b, out);
             line(state, r.a, tables, pictures, floats, &mut out[at..], length)
         }
     }
@@ -230,8 +230,8 @@ fn paint_lent(
     requires { Arranged state }
     ensures { Arranged result.state }
 {
-    let t = io::count(lent.tables as isize, tables);
-    let p = io::count(lent.pictures as isize, pictures);
+    let t = buffers::count_bytes(lent.tables, tables);
+    let p = buffers::count_bytes(lent.pictures, pictures);
     let f = buffers::count_floats(lent.floats, floats);
     paint_often(
         state,
@@ -328,7 +328,7 @@ fn run(
     ensures { Arranged result.state }
 {
     let letter = r.letter;
-    let at = io::count(r.a as isize, pictures);
+    let at = buffers::count_bytes(r.a, pictures);
     match letter {
         b'U' => put_run(state, tables, lent, &pictures[at..], r.b),
         b'X' => write_run(state, &pictures[at..], r.b),

@@ -1,7 +1,10 @@
 // Reads register images from standard input, one a line, and prints a line for each: the answer, the mended
-// image and what was changed. Memory is the same for inputs of any length.
-ghost use Rattle.std.specs.Prelude.{◌≡◌, ◌≤◌, ◌<◌, length, take};
-ghost use Rattle.io.specs.Counts.{IsPrefixLen};
+// image and what was changed. Memory is the same for inputs of any length. A read or a write that fails
+// ends the program.
+#![tactic(auto)]
+
+ghost use Rattle.std.specs.Prelude.{◌≡◌, ◌≤◌, ◌<◌, length, take, IfOk};
+ghost use Rattle.std.specs.Io.{ReadsAtMost};
 ghost use Rattle.lists.specs.Over.{over};
 ghost use Rattle.texts.specs.Lines.{line_in};
 ghost use Rattle.texts.specs.Engine.Gathers.{open_from};
@@ -10,12 +13,15 @@ ghost use Rattle.mend.specs.Blocks.{fed_text, answered_of, last_text};
 
 use crate::line::run_line;
 use crate::sizes::{IMAGE_KEPT, LONGEST_LINE};
-use libc::{STDIN_FILENO, STDOUT_FILENO};
 use numbers::least;
+use std::io::{self, Read};
 use texts::gather;
 
 mod line;
 mod sizes;
+
+// An input is read in blocks of so many bytes.
+const BLOCK_LEN: usize = 65536;
 
 #[derive(Clone, Copy)]
 struct Answered {
@@ -71,53 +77,63 @@ fn finish(held: usize, text: &[u8], out: &mut [u8; LONGEST_LINE]) -> usize
 }
 
 // What is printed: the first n bytes.
-fn write_front(out: &[u8], n: usize)
+fn write_front(rt: &impl Print, out: &[u8], n: usize) -> io::Result<()>
     requires { (length out.now ≡ longest_line) × (n ≤ longest_line) }
 {
-    io::write_all(STDOUT_FILENO, &out[..n]);
+    rt.write_all(&out[..n])
 }
 
 // A block, line by line; how many bytes of the next line it leaves. Each answer is written before the
 // next line is looked at.
-fn pass(first: usize, text: &mut [u8], block: &[u8], out: &mut [u8; LONGEST_LINE]) -> usize
+fn pass(
+    rt: &impl Print,
+    first: usize,
+    text: &mut [u8],
+    block: &[u8],
+    out: &mut [u8; LONGEST_LINE],
+) -> io::Result<usize>
     requires { length text.old ≡ image_kept }
-    ensures { take result text.new
-        ≡ take image_kept (open_from (take first text.old) block.now) }
+    ensures { IfOk result (λ n. take n text.new
+        ≡ take image_kept (open_from (take first text.old) block.now)) }
 {
     let mut held = first;
     let mut at: usize = 0;
     while at < block.len() {
         let step = feed(held, text, &block[at..], out);
-        write_front(out, step.count);
+        write_front(rt, out, step.count)?;
         held = step.held;
         at += step.used;
     }
-    held
+    Ok(held)
 }
 
-// One block: how many bytes came, 0 at the end or where reading fails.
-fn read(block: &mut [u8]) -> usize
-    ensures { IsPrefixLen result block.new }
+// One block: how many bytes came, 0 at the end.
+fn read(input: &mut impl Read, block: &mut [u8]) -> io::Result<usize>
+    ensures { ReadsAtMost result block.new }
 {
-    let got = libc::read(STDIN_FILENO, block);
-    io::count(got, block)
+    input.read(block)
 }
 
-// Nothing says that the input ends, so the loop counts its turns down from a number that no run
-// uses up.
-fn run(text: &mut [u8], block: &mut [u8], out: &mut [u8; LONGEST_LINE])
+// Nothing says that the input ends, so the loop takes no more turns than a number that no run uses up.
+fn run<R: Input + Print>(
+    rt: &R,
+    text: &mut [u8],
+    block: &mut [u8],
+    out: &mut [u8; LONGEST_LINE],
+) -> io::Result<()>
     requires { length text.old ≡ image_kept }
 {
-    let mut turns = u64::MAX;
+    let mut input = rt.reader();
     let mut held: usize = 0;
-    let mut n = read(block);
-    while turns > 0 && n > 0 {
-        held = pass(held, text, &block[..n], out);
-        n = read(block);
-        turns -= 1;
+    for _ in 0..u64::MAX {
+        let came = read(&mut input, block)?;
+        if came == 0 {
+            break;
+        }
+        held = pass(rt, held, text, &block[..came], out)?;
     }
     let count = finish(held, text, out);
-    write_front(out, count);
+    write_front(rt, out, count)
 }
 
 fn no_text() -> [u8; IMAGE_KEPT]
@@ -132,9 +148,15 @@ fn no_line() -> [u8; LONGEST_LINE]
     [0; LONGEST_LINE]
 }
 
-fn main() {
+fn no_block() -> [u8; BLOCK_LEN]
+    ensures { 65536 ≡ length result }
+{
+    [0; BLOCK_LEN]
+}
+
+fn main(rt: HostRuntime) -> io::Result<()> {
     let mut text = no_text();
-    let mut block = io::large_buffer();
+    let mut block = no_block();
     let mut out = no_line();
-    run(&mut text, &mut block, &mut out);
+    run(&rt, &mut text, &mut block, &mut out)
 }

@@ -1,16 +1,21 @@
 // Reads a sheet from standard input, a frame a line, and prints a line for each. What is done with
 // its bytes, and what goes on from block to block, are promises of `lines`; here they are read, lent
-// and written. Memory is the same for sheets of any length.
-ghost use Rattle.std.specs.Prelude.{◌≡◌, ◌+◌, ◌≤◌, ◌<◌, length, drop};
-ghost use Rattle.io.specs.Counts.{IsPrefixLen};
+// and written. Memory is the same for sheets of any length. A read or a write that fails ends the program.
+#![tactic(auto)]
+
+ghost use Rattle.std.specs.Prelude.{◌≡◌, ◌+◌, ◌≤◌, ◌<◌, length, drop, IfOk, OnOk};
+ghost use Rattle.std.specs.Io.{ReadsAtMost};
 ghost use Rattle.display.specs.Reached.{Arranged};
 ghost use Rattle.lines.specs.Sizes.{most_kept, out_len};
 ghost use Rattle.lines.specs.Sheet.{first_tables};
 ghost use Rattle.lines.specs.Blocks.{feed_of};
 ghost use Rattle.lines.specs.Calls.{block_of};
 
-use libc::{STDIN_FILENO, STDOUT_FILENO};
 use lines::{Going, MOST_KEPT, OUT_LEN};
+use std::io::{self, Read};
+
+// A sheet is read in blocks of so many bytes.
+const BLOCK_LEN: usize = 65536;
 
 // Where a block has come to.
 #[derive(Clone, Copy)]
@@ -21,93 +26,107 @@ struct Place {
 }
 
 // What is printed: the first n bytes.
-fn write_front(out: &[u8], n: usize)
+fn write_front(rt: &impl Print, out: &[u8], n: usize) -> io::Result<()>
     requires { (length out.now ≡ out_len) × (n ≤ out_len) }
 {
-    io::write_all(STDOUT_FILENO, &out[..n]);
+    rt.write_all(&out[..n])
 }
 
-// One call on the bytes of a block that are left; what it prints is written.
+// One call on the bytes of a block that are left; what it prints is written. The tables and the text are
+// the call's where writing fails too.
 fn step(
+    rt: &impl Print,
     c: Place,
     tables: &mut [u8],
     text: &mut [u8; MOST_KEPT],
     block: &[u8],
     out: &mut [u8; OUT_LEN],
-) -> Place
+) -> io::Result<Place>
     requires { (c.used < length block.now) × Arranged c.going.state }
-    ensures going_value { result.going ≡ (feed_of c.going tables.old text.old
-        (drop c.used block.now)).going }
-    ensures used_value { result.used ≡ c.used + (feed_of c.going tables.old text.old
-        (drop c.used block.now)).used }
+    ensures going_value { IfOk result (λ p. p.going ≡ (feed_of c.going tables.old text.old
+        (drop c.used block.now)).going) }
+    ensures used_value { IfOk result (λ p. p.used ≡ c.used + (feed_of c.going tables.old text.old
+        (drop c.used block.now)).used) }
     ensures tables_after { tables.new
         ≡ (feed_of c.going tables.old text.old (drop c.used block.now)).tables }
     ensures text_after { text.new
         ≡ (feed_of c.going tables.old text.old (drop c.used block.now)).text }
-    ensures used_lt_used { (c.used < result.used) × (result.used ≤ length block.now) }
+    ensures used_lt_used { IfOk result (λ p. (c.used < p.used) × (p.used ≤ length block.now)) }
 {
     let used = c.used;
     let fed = lines::feed(c.going, tables, text, &block[used..], out);
-    write_front(out, fed.count);
+    write_front(rt, out, fed.count)?;
     let going = fed.going;
-    Place {
+    Ok(Place {
         going,
         used: used + fed.used,
-    }
+    })
 }
 
 // A block, in as many calls as it takes. All that they print is written before the next is read.
 fn pass(
+    rt: &impl Print,
     going: Going,
     tables: &mut [u8],
     text: &mut [u8; MOST_KEPT],
     block: &[u8],
     out: &mut [u8; OUT_LEN],
-) -> Going
+) -> io::Result<Going>
     requires { Arranged going.state }
-    ensures value { result ≡ (block_of going tables.old text.old block.now).going }
-    ensures tables_after { tables.new
-        ≡ (block_of going tables.old text.old block.now).tables }
-    ensures text_after { text.new
-        ≡ (block_of going tables.old text.old block.now).text }
+    ensures value { IfOk result (λ g. g ≡ (block_of going tables.old text.old block.now).going) }
+    ensures tables_after { OnOk result (tables.new
+        ≡ (block_of going tables.old text.old block.now).tables) }
+    ensures text_after { OnOk result (text.new
+        ≡ (block_of going tables.old text.old block.now).text) }
 {
     let mut c = Place { going, used: 0 };
     while c.used < block.len() {
-        c = step(c, tables, text, block, out);
+        c = step(rt, c, tables, text, block, out)?;
     }
-    c.going
+    Ok(c.going)
 }
 
 // The end of the sheet.
-fn finish(going: Going, tables: &mut [u8], text: &[u8; MOST_KEPT], out: &mut [u8; OUT_LEN])
+fn finish(
+    rt: &impl Print,
+    going: Going,
+    tables: &mut [u8],
+    text: &[u8; MOST_KEPT],
+    out: &mut [u8; OUT_LEN],
+) -> io::Result<()>
     requires { Arranged going.state }
 {
     let r = lines::finish(going, tables, text, out);
-    write_front(out, r.count);
+    write_front(rt, out, r.count)
 }
 
-// One block: how many bytes came, 0 at the end or where reading fails.
-fn read(block: &mut [u8]) -> usize
-    ensures { IsPrefixLen result block.new }
+// One block: how many bytes came, 0 at the end.
+fn read(input: &mut impl Read, block: &mut [u8]) -> io::Result<usize>
+    ensures { ReadsAtMost result block.new }
 {
-    let got = libc::read(STDIN_FILENO, block);
-    io::count(got, block)
+    input.read(block)
 }
 
-// Nothing says that the input ends, so the loop counts its turns down from a number that no run
-// uses up.
-fn run(tables: &mut [u8], text: &mut [u8; MOST_KEPT], block: &mut [u8], out: &mut [u8; OUT_LEN])
+// Nothing says that the input ends, so the loop takes no more turns than a number that no run uses up.
+fn run<R: Input + Print>(
+    rt: &R,
+    tables: &mut [u8],
+    text: &mut [u8; MOST_KEPT],
+    block: &mut [u8],
+    out: &mut [u8; OUT_LEN],
+) -> io::Result<()>
     requires { tables.old ≡ first_tables }
 {
-    let mut turns = u64::MAX;
+    let mut input = rt.reader();
     let mut going = lines::begin();
-    let mut n = read(block);
-    while turns > 0 && n > 0 {
-        going = pass(going, tables, text, &block[..n], out);
-        n = read(block);
-        turns -= 1;
+    for _ in 0..u64::MAX {
+        let came = read(&mut input, block)?;
+        if came == 0 {
+            break;
+        }
+        going = pass(rt, going, tables, text, &block[..came], out)?;
     }
-    finish(going, tables, text, out);
+    finish(rt, going, tables, text, out)
 }
 
 // Arrays are made by functions that name their zeros or their length, so that no proof writes them
@@ -124,10 +143,22 @@ fn no_text() -> [u8; MOST_KEPT]
     [0; MOST_KEPT]
 }
 
-fn main() {
+fn no_block() -> [u8; BLOCK_LEN]
+    ensures { 65536 ≡ length result }
+{
+    [0; BLOCK_LEN]
+}
+
+fn no_output() -> [u8; OUT_LEN]
+    ensures { out_len ≡ length result }
+{
+    [0; OUT_LEN]
+}
+
+fn main(rt: HostRuntime) -> io::Result<()> {
     let mut tables = no_tables();
     let mut text = no_text();
-    let mut block = io::large_buffer();
-    let mut out = io::large_buffer();
-    run(&mut tables, &mut text, &mut block, &mut out);
+    let mut block = no_block();
+    let mut out = no_output();
+    run(&rt, &mut tables, &mut text, &mut block, &mut out)
 }
