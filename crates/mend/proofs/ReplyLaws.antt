@@ -8,7 +8,7 @@ use native.Mathlib.Omega.{arith}
 use native.Mathlib.Numerals.{add-one}
 use lib.Dec.{eqb}
 use lib.ListN.{length, get_or, take, drop, length-take, get_or-append}
-use lib.Seq.{length-take-le, take-length, take-append-add, take_at, take_all}
+use lib.Seq.{length-take-le, take-append-add, take_at, take_all}
 use borrow.Author.Tests.{eq-eqb, ne_eqb}
 use Rattle.lists.specs.Choice.{pick}
 use Rattle.lists.specs.Over.{over}
@@ -29,16 +29,16 @@ use Rattle.mend.specs.Line.{listed_at, listed_words, mend_reply, line_reply, men
 -- ---- `put`: the part p copied behind the first n bytes of s
 
 pub put_is : (s p c rest : List ℕ) (n : ℕ) → n + length p ≤ length s
-    → c ≡ take (length p) p ++ drop (length p) (take (length s - n) (drop n s))
+    → c ≡ over p (take (length s - n) (drop n s))
     → take (n + length p) (take n s ++ (c ++ rest)) ≡ take n s ++ p
+unfolding over
 put_is s p c rest n h e =
     let a : length (take n s) ≡ n = length-take-le n s (omega arith) in
     let q : n + length p ≡ length (take n s) + length p = omega arith in
     let more = drop (length p) (take (length s - n) (drop n s)) in
     ap (λ (k : ℕ). take k (take n s ++ (c ++ rest))) q
     ∙ take-append-add (take n s) (c ++ rest) (length p)
-    ∙ ap (λ (l : List ℕ). take n s ++ take (length p) (l ++ rest))
-    (e ∙ ap (λ (l : List ℕ). l ++ more) (take-length p))
+    ∙ ap (λ (l : List ℕ). take n s ++ take (length p) (l ++ rest)) e
     ∙ ap (λ (l : List ℕ). take n s ++ take (length p) l) (append_assoc p more rest)
     ∙ ap (λ (l : List ℕ). take n s ++ l) (take_at p (more ++ rest) (length p) refl)
 

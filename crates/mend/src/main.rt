@@ -3,7 +3,7 @@
 // ends the program.
 #![tactic(auto)]
 
-ghost use Rattle.std.specs.Prelude.{◌≡◌, ◌≤◌, ◌<◌, length, take, IfOk};
+ghost use Rattle.std.specs.Prelude.{◌≡◌, ◌≤◌, ◌<◌, length, take, IfOk, OnErr};
 ghost use Rattle.std.specs.Io.{ReadsAtMost};
 ghost use Rattle.lists.specs.Over.{over};
 ghost use Rattle.texts.specs.Lines.{line_in};
@@ -84,7 +84,7 @@ fn write_front(rt: &impl Print, out: &[u8], n: usize) -> io::Result<()>
 }
 
 // A block, line by line; how many bytes of the next line it leaves. Each answer is written before the
-// next line is looked at.
+// next line is looked at. Where writing fails, the text keeps its length.
 fn pass(
     rt: &impl Print,
     first: usize,
@@ -93,8 +93,9 @@ fn pass(
     out: &mut [u8; LONGEST_LINE],
 ) -> io::Result<usize>
     requires { length text.old ≡ image_kept }
-    ensures { IfOk result (λ n. take n text.new
+    ensures held { IfOk result (λ n. take n text.new
         ≡ take image_kept (open_from (take first text.old) block.now)) }
+    ensures failed { OnErr result (length text.new ≡ image_kept) }
 {
     let mut held = first;
     let mut at: usize = 0;

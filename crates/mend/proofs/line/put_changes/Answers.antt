@@ -2,7 +2,6 @@
 -- what was there. The measure is what is left. Assumes nothing.
 use borrow.Author.Rules.{rules}
 use native.Mathlib.Omega.{arith}
-use Prim.Native.Nat.{◌-◌}
 use mathlib.Core.Path.{refl}
 use lib.ListN.{take}
 use Rattle.mend.proofs.ReplyLaws.{changes-none, changes-turn, changes-end}
@@ -13,15 +12,15 @@ loop-i-init c = let a = c.args in (search rules, omega arith, refl, changes-none
 
 pub loop-i-preserved : goal.loop-i-preserved
 loop-i-preserved c = let a = c.args in let l = c.loop-i in let p = c.put_change-n.ensures in (
-      search rules,
-      omega (arith, p.0, l.invariant.1),
-      search rules,
-      changes-turn a.list.now (take a.from a.reply.now) _ _ l.i l.invariant.3 p.1,
-    )
+  search rules,
+  omega (arith, p.0, l.invariant.1),
+  search rules,
+  changes-turn a.list.now (take a.from a.reply.now) _ _ l.i l.invariant.3 p.1,
+)
 
 pub returns : goal.returns
 returns c = let a = c.args in let l = c.loop-i in (
-      omega (arith, c.loop-i-test.false, l.invariant.0, l.invariant.1),
-      changes-end a.list.now (take a.from a.reply.now) _ l.i a.count l.invariant.3
-          (omega (arith, c.loop-i-test.false, l.invariant.0)),
-    )
+  omega (arith, c.loop-i-test.false, l.invariant.0, l.invariant.1),
+  changes-end a.list.now (take a.from a.reply.now) _ l.i a.count l.invariant.3
+      (omega (arith, c.loop-i-test.false, l.invariant.0)),
+)

@@ -11,16 +11,16 @@ slice_bounds-print_line-end c = sym (length-take-le _ c.answer-n.new.reply
 
 pub print_line-requires : goal.print_line-requires
 print_line-requires c = omega (
-      arith,
-      c.answer-n.ensures.1,
-      length-take-le c.answer-n.result c.answer-n.new.reply
-          (omega (arith, c.answer-n.ensures.1, c.answer-n.auto.reply, c.no_reply-reply.ensures)),
-      c.well-formed,
-    )
+  arith,
+  c.answer-n.ensures.1,
+  length-take-le c.answer-n.result c.answer-n.new.reply
+      (omega (arith, c.answer-n.ensures.1, c.answer-n.auto.reply, c.no_reply-reply.ensures)),
+  c.well_formed,
+)
 
 pub returns : goal.returns
-returns c = 
+returns c =
     let r =
     line-printed c.args.text.now _ _ _ _ _ c.answer-n.ensures.0
     c.answer-n.ensures.1 c.print_line.ensures.0 c.print_line.ensures.1 in
-    record { count = r.0; output = r.1.0; fits = r.1.1; }
+    record { count = r.0; output = r.1.0; fits = r.1.1 }
