@@ -1,42 +1,76 @@
--- A call of `lines::feed` on the rest of a block, as it is lent. Assumes nothing.
-use Prim.Native.Nat.{ℕ, ◌+◌, ◌-◌, ◌<◌, ◌≤◌}
-use mathlib.Core.Path.{◌≡◌, ap, ◌∙◌}
-use mathlib.Core.List.{List}
+-- The calls on a block so far, as the loop over them has it. Assumes nothing.
+use Prim.Native.Nat.{ℕ, zero, suc, ◌+◌, ◌<◌, ◌≤◌}
+use mathlib.Core.Path.{◌≡◌, refl, sym, ap, ◌∙◌}
+use mathlib.Core.Logic.{⊎_elim}
+use mathlib.Core.List.{List, [], ◌++◌}
 use native.Mathlib.Omega.{arith}
-use lib.ListN.{length, take, drop, length-drop}
-use Rattle.texts.proofs.GatherLaws.{rest-is}
+use lib.ListN.{length, drop}
+use borrow.Author.Tests.{lt-ltb, le-ltb}
+use Rattle.std.proofs.lemmas.Bool.{cases_lt}
 use Rattle.lines.specs.declared.blocks.Going.{Going}
-use Rattle.lines.specs.declared.blocks.Fed.{Fed}
-use Rattle.lines.specs.Sizes.{out_len}
-use Rattle.lines.specs.Blocks.{Batch, feed_of, fed_of}
+use Rattle.lines.specs.Blocks.{Batch, feed_of}
+use Rattle.lines.specs.Calls.{again_of, calls_of}
+use Rattle.sheet.specs.Failed.{calls_on, LeftBySome}
 
--- n bytes of l are used up
-module _ (g : Going) (t u l : List ℕ) (n : ℕ) (f : Fed) (inside : n < length l)
-    (ef : f ≡ fed_of (feed_of g t u (take (length l - n) (drop n l))))
-    (on : (0 < length (take (length l - n) (drop n l)) → 0 < f.used)
-    × (f.used ≤ length (take (length l - n) (drop n l))) × (f.count ≤ out_len)) where
-  rest-long : length (take (length l - n) (drop n l)) ≡ length l - n
-  rest-long = ap length (rest-is l n) ∙ length-drop n l
+calls_of-more : (n : ℕ) (l : List ℕ) (b : Batch) → b.used < length l → calls_of (suc n) l b ≡ calls_of n l (again_of l b)
+unfolding calls_of
+calls_of-more n l b h = rw (lt-ltb b.used (length l) h) refl
 
-  pub step-bounds : (n < n + f.used) × (n + f.used ≤ length l)
-  step-bounds =
-      let a : 0 < f.used = on.0 (omega (arith, rest-long)) in
-      let b : f.used ≤ length (take (length l - n) (drop n l)) = on.1 in
-      (omega arith, omega (arith, rest-long))
+calls_of-end : (n : ℕ) (l : List ℕ) (b : Batch) → length l ≤ b.used → calls_of n l b ≡ b
+unfolding calls_of
+calls_of-end zero l b h = refl
+calls_of-end (suc n) l b h = rw (le-ltb b.used (length l) h) refl
 
-  feed-rest : feed_of g t u (take (length l - n) (drop n l)) ≡ feed_of g t u (drop n l)
-  feed-rest = ap (feed_of g t u) (rest-is l n)
+-- n calls, and one more
+calls_of-last : (n : ℕ) (l : List ℕ) (b : Batch) → (calls_of n l b).used < length l
+    → calls_of (suc n) l b ≡ again_of l (calls_of n l b)
+unfolding calls_of
+calls_of-last zero l b h = calls_of-more zero l b h
+calls_of-last (suc n) l b h =
+    ⊎_elim
+    (λ (i : b.used < length l).
+    let e = calls_of-more n l b i in
+    let k : (calls_of n l (again_of l b)).used < length l =
+    rw (sym (ap (λ (z : Batch). z.used) e)) h in
+    calls_of-more (suc n) l b i ∙ calls_of-last n l (again_of l b) k ∙ ap (again_of l) (sym e))
+    (λ (i : length l ≤ b.used).
+    let e : (calls_of (suc n) l b).used ≡ b.used = ap (λ (z : Batch). z.used) (calls_of-end (suc n) l b i) in
+    absurd (omega arith))
+    (cases_lt b.used (length l))
 
-  pub step_is : (t' u' : List ℕ) → t' ≡ (feed_of g t u (take (length l - n) (drop n l))).tables
-      → u' ≡ (feed_of g t u (take (length l - n) (drop n l))).text
-      → (f.going ≡ (feed_of g t u (drop n l)).going) × ((n + f.used ≡ n + (feed_of g t u (drop n l)).used)
-      × ((t' ≡ (feed_of g t u (drop n l)).tables) × ((u' ≡ (feed_of g t u (drop n l)).text)
-      × ((n < n + f.used) × (n + f.used ≤ length l)))))
-  step_is t' u' et eu =
-      let e : f ≡ fed_of (feed_of g t u (drop n l)) = ef ∙ ap fed_of feed-rest in (
-        ap (λ (q : Fed). q.going) e,
-        (
-          ap (λ (q : Fed). n + q.used) e,
-          (et ∙ ap (λ (b : Batch). b.tables) feed-rest, (eu ∙ ap (λ (b : Batch). b.text) feed-rest, step-bounds)),
-        ),
-      )
+-- some calls on the block l, which found g₀, t₀ and u₀, have come to this; what they printed is written and not
+-- held
+pub record Called (l : List ℕ) (g₀ : Going) (t₀ u₀ : List ℕ) (g : Going) (t u : List ℕ) (n : ℕ) : Type 0 where
+  pub calls : ℕ
+  pub written : List ℕ
+  pub same : calls_on calls l g₀ t₀ u₀ ≡ record { going = g; tables = t; text = u; used = n; printed = written }
+
+pub called-none : (l : List ℕ) (g : Going) (t u : List ℕ) → Called l g t u g t u 0
+unfolding calls_of
+called-none l g t u = record { calls = 0; written = []; same = refl }
+
+module _ {l : List ℕ} {g₀ : Going} {t₀ u₀ : List ℕ} {g : Going} {t u : List ℕ} {n : ℕ} (k : Called l g₀ t₀ u₀ g t u n) (h : n < length l) where
+  -- one call more
+  again-is : calls_on (suc k.calls) l g₀ t₀ u₀
+      ≡ again_of l (record { going = g; tables = t; text = u; used = n; printed = k.written })
+  again-is =
+      calls_of-last k.calls l _ (rw k.same h) ∙ ap (again_of l) k.same
+
+  pub called-next : (g' : Going) (t' u' : List ℕ) (n' : ℕ) → g' ≡ (feed_of g t u (drop n l)).going
+      → t' ≡ (feed_of g t u (drop n l)).tables → u' ≡ (feed_of g t u (drop n l)).text
+      → n' ≡ n + (feed_of g t u (drop n l)).used
+      → Called l g₀ t₀ u₀ g' t' u' n'
+  unfolding again_of
+  called-next g' t' u' n' eg et eu en =
+      record {
+        calls = suc k.calls;
+        written = k.written ++ (feed_of g t u (drop n l)).printed;
+        same = again-is ∙ rw (eg, et, eu, en) refl;
+      }
+
+  -- one that could not be written
+  pub left-by-last : (t' u' : List ℕ) → t' ≡ (feed_of g t u (drop n l)).tables → u' ≡ (feed_of g t u (drop n l)).text
+      → LeftBySome l g₀ t₀ u₀ t' u'
+  left-by-last t' u' et eu =
+      let z = called-next _ t' u' _ refl et eu refl in
+      (z.calls, (ap (λ (b : Batch). b.tables) (sym z.same), ap (λ (b : Batch). b.text) (sym z.same)))

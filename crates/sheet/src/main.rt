@@ -3,13 +3,14 @@
 // and written. Memory is the same for sheets of any length. A read or a write that fails ends the program.
 #![tactic(auto)]
 
-ghost use Rattle.std.specs.Prelude.{◌≡◌, ◌+◌, ◌≤◌, ◌<◌, length, drop, IfOk, OnOk};
+ghost use Rattle.std.specs.Prelude.{◌≡◌, ◌+◌, ◌≤◌, ◌<◌, length, drop, IfOk, OnOk, OnErr};
 ghost use Rattle.std.specs.Io.{ReadsAtMost};
 ghost use Rattle.display.specs.Reached.{Arranged};
 ghost use Rattle.lines.specs.Sizes.{most_kept, out_len};
 ghost use Rattle.lines.specs.Sheet.{first_tables};
 ghost use Rattle.lines.specs.Blocks.{feed_of};
 ghost use Rattle.lines.specs.Calls.{block_of};
+ghost use Rattle.sheet.specs.Failed.{LeftBySome};
 
 use lines::{Going, MOST_KEPT, OUT_LEN};
 use std::io::{self, Read};
@@ -63,7 +64,8 @@ fn step(
     })
 }
 
-// A block, in as many calls as it takes. All that they print is written before the next is read.
+// A block, in as many calls as it takes. All that they print is written before the next is read. Where
+// writing fails, the tables and the text are as the calls until then left them.
 fn pass(
     rt: &impl Print,
     going: Going,
@@ -78,6 +80,8 @@ fn pass(
         ≡ (block_of going tables.old text.old block.now).tables) }
     ensures text_after { OnOk result (text.new
         ≡ (block_of going tables.old text.old block.now).text) }
+    ensures failed { OnErr result (LeftBySome block.now going tables.old text.old
+        tables.new text.new) }
 {
     let mut c = Place { going, used: 0 };
     while c.used < block.len() {

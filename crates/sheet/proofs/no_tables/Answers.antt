@@ -2,12 +2,8 @@
 use mathlib.Core.Path.{refl}
 use Rattle.tables.specs.Geometry.{tables_len, bank_len}
 use Rattle.line.specs.Line.{zeros}
-use Rattle.sheet.proofs.no_tables.Statement.{statement}
-use Rattle.sheet.proofs.no_tables.Tie as tie
+use Rattle.sheet.proofs.no_tables.Goals as goal
 
-returns : tie.Need-returns
+pub returns : goal.returns
 unfolding zeros tables_len bank_len
 returns c = (refl, refl)
-
-pub no-tables-spec : {M : Type 1} → statement M
-no-tables-spec = tie.close (tie.spec returns)

@@ -3,20 +3,10 @@
 use Rattle.std.proofs.Common.{ℕ, ◌%◌, ◌≤◌, not, T, rules, le-ltb}
 use lib.Ieee.{binary32, nan_bits}
 use lib.Ieee.Bits.{nan_bits_above}
-use Rattle.figures.proofs.buffers.float_of.Statement.{statement}
-use Rattle.figures.proofs.buffers.float_of.Tie as tie
+use Rattle.figures.proofs.buffers.float_of.Goals as goal
 
 number-bits : (n : ℕ) → n % 0x8000_0000 ≤ 0x7f80_0000 → T (not (nan_bits binary32 n))
 number-bits n p = rw (nan_bits_above binary32 n, le-ltb 0x7f80_0000 (n % 0x8000_0000) p) tt
 
-returns : tie.Need-returns
-returns c = search rules
-
-float-from-bits-result : tie.Need-float-from-bits-result
-float-from-bits-result c = search (number-bits, rules)
-
-returns-2 : tie.Need-returns-2
-returns-2 c = search rules
-
-pub float-of-spec : {M : Type 1} → statement M
-float-of-spec = tie.close (tie.spec returns float-from-bits-result returns-2)
+pub float_from_bits-result : goal.float_from_bits-result
+float_from_bits-result c = search (number-bits, rules)
