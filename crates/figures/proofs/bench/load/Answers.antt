@@ -1,6 +1,5 @@
 -- `figures::bench::load` meets its contract: each put keeps the layers arranged, and the tables their length.
 -- The measure is the bytes left. Assumes nothing.
-use Rattle.std.proofs.Common.{◌-◌}
 use Rattle.figures.proofs.Kept.{kept}
 use Rattle.figures.proofs.bench.load.Goals as goal
 

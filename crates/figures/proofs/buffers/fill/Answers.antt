@@ -1,6 +1,6 @@
 -- `figures::buffers::fill` meets its contract: a store keeps the length. The measure is what is
 -- left of the buffer. Assumes nothing.
-use Rattle.std.proofs.Common.{◌-◌, length-set, rules}
+use Rattle.std.proofs.Common.{length-set, rules}
 use Rattle.figures.proofs.buffers.fill.Goals as goal
 
 pub loop-i-smaller : goal.loop-i-smaller
