@@ -1,6 +1,6 @@
 //! The sheet program beside this display: both read the same sheets, and must print the same bytes.
 //!
-//!   SPOONWING_SHEET   the program, ../../target/bin/sheet unless set
+//!   SPOONWING_SHEET   the program, ../../crates/sheet/out/sheet unless set
 //!   SPOONWING_LINES   how many generated lines to compare, 2,000 unless set
 //!   SPOONWING_SEED    compares the sheet of this one seed only, aloud
 
@@ -92,7 +92,7 @@ fn compare_generated(seed: u64, other: &dyn Fn(&[u8]) -> Vec<u8>) -> Result<(), 
 
 #[test]
 fn the_program_prints_the_fixed_sheets() {
-    let program = program("SPOONWING_SHEET", "../../target/bin/sheet");
+    let program = program("SPOONWING_SHEET", "../../crates/sheet/out/sheet");
     for (name, sheet) in FIXED {
         compare(name, sheet, &|sheet| run(&program, &[], sheet))
             .unwrap_or_else(|told| panic!("{told}"));
@@ -111,7 +111,7 @@ fn the_sheet_of_the_gate_prints_the_same_here() {
 /// byte in place of a digit, every character, opcode and weight.
 #[test]
 fn the_program_prints_the_sweeps() {
-    let program = program("SPOONWING_SHEET", "../../target/bin/sheet");
+    let program = program("SPOONWING_SHEET", "../../crates/sheet/out/sheet");
     for (name, sheet) in [
         ("the sheet of words", word_sheet()),
         ("the sheet of numbers", number_sheet()),
@@ -125,7 +125,7 @@ fn the_program_prints_the_sweeps() {
 
 #[test]
 fn the_program_prints_the_generated_sheets() {
-    let program = program("SPOONWING_SHEET", "../../target/bin/sheet");
+    let program = program("SPOONWING_SHEET", "../../crates/sheet/out/sheet");
     let other = |sheet: &[u8]| run(&program, &[], sheet);
     if let Some(seed) = seed() {
         let sheet = gen_sheet(seed, LINES_A_SHEET);

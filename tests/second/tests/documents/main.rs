@@ -3,7 +3,7 @@
 //! - a path below `crates/` (`.antt` left out) or from the top is a file or a folder. After a path,
 //!   names without a folder may be files beside it: `words/specs/Fields`, `Check`;
 //! - a name, or a row of names joined by commas or "and", with a file in brackets behind it is
-//!   declared in that file: `checkOf` (`words/specs/Check`), a later (`Order`) beside the last file
+//!   declared in that file: `check_of` (`words/specs/Check`), a later (`Order`) beside the last file
 //!   named. In PROMISES (Check) is a file of `specs/` of the section's crate or the row's, (words,
 //!   Check) of that crate;
 //! - in a table with a column File the names under Theorem are declared in the row's files, and
@@ -120,10 +120,13 @@ fn rooms_are_closed() {
 /// A right line and a wrong one.
 const LINES: [(&str, &str); 9] = [
     ("`words/specs/Check`, `Fields`", "`words/specs/Chek`"),
-    ("`checkOf` (`words/specs/Check`)", "`checkOf` (`words/specs/Fields`)"),
-    ("`checkOf`, `reservedAt` (`words/specs/Check`)", "`layerOf`, `checkOf` (`words/specs/Check`)"),
-    ("`words/specs/Fields`: `checkOf` (`Check`)", "`words/specs/Check`: `checkOf` (`Fields`)"),
-    ("`checkOf`", "`checkedOf`"),
+    ("`check_of` (`words/specs/Check`)", "`check_of` (`words/specs/Fields`)"),
+    (
+        "`check_of`, `reserved_at` (`words/specs/Check`)",
+        "`layer_of`, `check_of` (`words/specs/Check`)",
+    ),
+    ("`words/specs/Fields`: `check_of` (`Check`)", "`words/specs/Check`: `check_of` (`Fields`)"),
+    ("`check_of`", "`checked_of`"),
     ("`start-spec` (`display/proofs/`)", "`start-spec` (`mix/proofs/`)"),
     ("`mix::fade`", "`span::fade`"),
     ("`RESERVED` of `starts/src/lib.rt`", "`RESERVED` of `order/src/lib.rt`"),
@@ -132,9 +135,9 @@ const LINES: [(&str, &str); 9] = [
 
 /// The heads of a table in the section of a crate, a right row and a wrong one.
 const TABLES: [(&str, &str, &str, &str); 8] = [
-    ("words", "Definition|", "`checkOf` (Check)|", "`checkOf` (Fields)|"),
-    ("words", "Definition|", "`blendOf` (mix, Blend)|", "`blendOf` (mix, Fade)|"),
-    ("words", "Of `words/specs/Check`|", "`checkOf`|", "`layerOf`|"),
+    ("words", "Definition|", "`check_of` (Check)|", "`check_of` (Fields)|"),
+    ("words", "Definition|", "`blend_of` (mix, Blend)|", "`blend_of` (mix, Fade)|"),
+    ("words", "Of `words/specs/Check`|", "`check_of`|", "`layer_of`|"),
     ("order", "Edits|", "`top_layer_first`|", "`divide_by_256`|"),
     ("words", "Edits|", "mix: `divide_by_256`|", "mix: `top_layer_first`|"),
     (
@@ -162,9 +165,9 @@ fn wrong_lines_are_caught() {
         let line = format!("wrong:{}: ", wrong.lines().count());
         assert!(faults.len() == 1 && faults[0].starts_with(&line), "{wrong}{faults:?}");
     }
-    let in_two_lines = "some\ntext `checkOf`\n(`words/specs/Fields`)";
+    let in_two_lines = "some\ntext `check_of`\n(`words/specs/Fields`)";
     assert_eq!(
         Reader::read(&tree, "wrong", in_two_lines).faults,
-        ["wrong:2: `checkOf` is not declared in words/specs/Fields"]
+        ["wrong:2: `check_of` is not declared in words/specs/Fields"]
     );
 }

@@ -10,7 +10,7 @@ const WORDS: [&str; 4] = [
     "std io mathlib wrapping_sub_u32 wrapping_add_u32",
     "min set take drop length replicate eqb ltb leb",
     "CALL-NUMBER CALL-tie CALL-unique CALL-down CALL-fixed CALL-untouched CALL-ground-last F-spec \
-     CRATE/proofs/../F/Proof.antt",
+     CRATE/proofs/../F/Invariants.antt CRATE/proofs/../F/Answers.antt",
 ];
 
 fn is_word(text: &str) -> bool {

@@ -44,7 +44,10 @@ impl Tree {
             let path = entry.expect("it is there").path();
             let name = path.file_name().and_then(|name| name.to_str()).expect("plain names");
             if path.is_dir() {
-                self.add(&path, &format!("{place}{name}/"));
+                // What the toolchain makes of a crate is not the crate.
+                if name != "out" {
+                    self.add(&path, &format!("{place}{name}/"));
+                }
                 continue;
             }
             let text = fs::read(&path).expect("a file is read");
@@ -86,11 +89,12 @@ impl Tree {
     }
 }
 
-/// What a line of antt declares: `pub putAnswer : ..`, `pub record Ready ..`, `low high : ℕ`.
+/// What a line of antt declares: `pub put_answer : ..`, `pub record Ready ..`, `low high : ℕ`.
 fn antt_names(line: &str) -> Vec<String> {
     let mut line = line.trim_start();
-    while let Some(rest) =
-        ["pub ", "abbrev ", "unfoldable "].iter().find_map(|word| line.strip_prefix(word))
+    while let Some(rest) = ["pub ", "abbrev ", "opaque ", "unfoldable "]
+        .iter()
+        .find_map(|word| line.strip_prefix(word))
     {
         line = rest;
     }
@@ -131,5 +135,5 @@ fn code_names(line: &str) -> Vec<String> {
 pub fn is_plain(text: &str) -> bool {
     let mut letters = text.chars();
     letters.next().is_some_and(char::is_alphabetic)
-        && letters.all(|c| c.is_alphanumeric() || "_-′→".contains(c))
+        && letters.all(|c| c.is_alphanumeric() || "_-'→".contains(c))
 }
