@@ -1,16 +1,14 @@
 # What the tools share; each reads it in. C programs are for this machine's processor, unless
-# SPOONWING_PROCESSOR says x86-64. Rattle programs are for x86-64: where the processor is another, the
-# Rattle kit's emulator runs them.
+# SPOONWING_PROCESSOR says x86-64. Rattle programs are for x86-64: where the processor is another, an
+# emulator runs them.
 top=$(cd "$(dirname "${BASH_SOURCE[0]}")/.." && pwd)
 
 # Whether this processor is an x86-64.
 is_x86() { [ "$(uname -m)" = x86_64 ]; }
 
-# The kit's folder, and in it the one of what runs on this processor, with the compiler's own folder
-# below it.
-kit_home() { dirname "$(dirname "$(rt doc)")"; }
-kit_here() { echo "$(kit_home)/on/$(uname -m)"; }
-kit() { echo "$(kit_here)/toolchain"; }
+# The kit's folder, and in it the one with clang and what Rattle programs are linked with.
+kit_home() { dirname "$(rt doc)"; }
+kit() { echo "$(kit_home)/toolchain"; }
 
 # ---- manners
 
@@ -74,11 +72,20 @@ need_kit() {
     command -v rt >/dev/null || fail "rt is missing; install the Rattle kit, so that 'rt version' answers"
 }
 
+# emulator: what runs x86-64 programs on another processor, and can log what they execute. It is got where
+# it is missing.
+emulator() {
+    need qemu-x86_64 qemu-user
+    command -v qemu-x86_64
+}
+
 # become PROGRAM [WORDS..]: runs a program that brings its libraries, in place of this shell. Byte 18
 # of it names the processor that it is for: 3e is x86-64.
 become() {
+    local runner
     if is_x86 || [ "$(od -An -tx1 -j18 -N1 "$1")" != " 3e" ]; then exec "$@"; fi
-    exec "$(kit)/bin/qemu-x86_64" "$@"
+    runner=$(emulator)
+    exec "$runner" "$@"
 }
 
 # ---- processors
@@ -122,23 +129,24 @@ compiler() {
 
 # ---- archives
 
-# The crates whose exports the archive has, and the archive that the kit itself makes, for x86-64.
-archive_crates="host repair display"
+# The crate whose exports the archive has, and the archive for every x86-64.
+archive_crate=spoonwing
 plain_archive=$top/target/staticlib/libspoonwing.a
 
-# What the kit's compiler was given for each of them when that archive was made.
-modules=$top/target/native/modules
+# The module that the kit's clang was given when that archive was made.
+module=$top/target/native/$archive_crate.bc
 
-# Whether that archive is there and no file of the crates is newer.
+# Whether that archive is there and no file of the crates is newer. A crate's out/ is what rt makes of it.
 has_plain_archive() {
-    [ -e "$plain_archive" ] &&
-        [ -z "$(find "$top/crates" "$top/crates.txt" -newer "$plain_archive" -print -quit)" ]
+    [ -e "$plain_archive" ] && [ ! "$top/crates.txt" -nt "$plain_archive" ] &&
+        [ -z "$(find "$top/crates" -mindepth 2 -name out -prune -o -newer "$plain_archive" -print -quit)" ]
 }
 
-# archive_parts: the archive's crates and all that they stand on, once each.
+# archive_parts: the archive's crate and all that it stands on, once each.
 archive_parts() {
-    local name below parts=" $archive_crates "
+    local name below parts=" $archive_crate "
     while IFS=: read -r name below; do
+        name=${name%% *}
         case $parts in *" $name "*) parts+="$below " ;; esac
     done < <(grep -v '^#' "$top/crates.txt" | tac)
     printf '%s\n' $parts | sort -u | while read -r name; do
@@ -146,89 +154,90 @@ archive_parts() {
     done
 }
 
+# archive_libraries: those that it stands on alone.
+archive_libraries() { archive_parts | grep -vxF "$archive_crate"; }
+
 # show_steps: of the prover's notes on standard input, a line for each crate, the first time that it is
 # proved.
 show_steps() {
-    local line name total at=0 seen=" "
+    local line name= total at=0 seen=" "
     total=$(archive_parts | wc -l)
     while read -r line; do
         case $line in
-        'rt: '*' proved ('*) name=${line#rt: } name=${name%% *} ;;
-        'rt: target/staticlib/lib'*) name=${line#*/lib} name=${name%%.a *} ;;
-        *) continue ;;
+        'crate '*': modules '*) name=${line#crate } name=${name%%:*} ;;
+        'logic=proved '*)
+            case $seen in *" $name "*) continue ;; esac
+            seen+="$name " at=$((at + 1))
+            echo "  $at of $total: $name is proved"
+            ;;
         esac
-        case $seen in *" $name "*) continue ;; esac
-        seen+="$name " at=$((at + 1))
-        echo "  $at of $total: $name is proved"
     done
 }
 
-# mirror FOLDER NAME COPY: a folder with links to all that FOLDER holds, but for NAME.
-mirror() {
-    local file
-    mkdir -p "$3"
-    for file in "$1"/*; do
-        if [ "${file##*/}" != "$2" ]; then ln -s "$file" "$3"; fi
+# keeping_toolchain FOLDER: makes of it the kit's toolchain, but for a clang that keeps the module which it
+# is given and then does its work. The kit has no word for that.
+keeping_toolchain() {
+    local kit file
+    kit=$(kit)
+    mkdir -p "$1/bin" "$(dirname "$module")"
+    ln -s "$kit/lib" "$1"
+    for file in "$kit"/bin/*; do
+        if [ "${file##*/}" != clang ]; then ln -s "$file" "$1/bin"; fi
     done
-}
-
-# keeping_kit CRATE: a folder that stands for the kit's own, whose clang keeps the module that it is given
-# for a crate and then does its work. The kit has no word for that.
-keeping_kit() {
-    local copy=$top/target/kit/$1 here
-    here=$copy/on/$(uname -m)/toolchain
-    rm -rf "$copy" "$modules/$1.bc"
-    mkdir -p "$modules"
-    mirror "$(kit_home)" on "$copy"
-    mirror "$(kit_home)/on" "$(uname -m)" "$copy/on"
-    mirror "$(kit_here)" toolchain "$copy/on/$(uname -m)"
-    mirror "$(kit)" bin "$here"
-    mirror "$(kit)/bin" clang "$here/bin"
-    cat >"$here/bin/clang" <<SH
+    cat >"$1/bin/clang" <<SH
 #!/bin/sh
-for word in "\$@"; do case \$word in *.bc) cp "\$word" "$modules/$1.bc" ;; esac; done
-exec "$(kit)/bin/clang" "\$@"
+for word in "\$@"; do case \$word in *.bc) cp "\$word" "$module" ;; esac; done
+exec "$kit/bin/clang" "\$@"
 SH
-    chmod +x "$here/bin/clang"
-    echo "$copy"
+    chmod +x "$1/bin/clang"
 }
 
-# prove_parts: what the archives stand on, and then each archive, beside the others; rt proves its crate
-# anew each time.
-prove_parts() {
-    local crate home job jobs=() failed=0
-    rt check $(archive_parts | grep -vxF "$(printf '%s\n' $archive_crates)") || return
-    for crate in $archive_crates; do
-        home=$(kit_home)
-        if [ -x "$(kit)/bin/clang" ]; then home=$(keeping_kit "$crate"); fi
-        RATTLE_HOME=$home rt staticlib "$crate" &
-        jobs+=($!)
+# compile_archive: has the kit's compiler make that archive over the libraries that rt has proved, and keeps
+# its module. `rt lib` would take neither a clang that keeps it nor libraries that `rt ci` proved. The
+# toolchain stands outside of this tree, in which rt takes no links.
+compile_archive() {
+    local kit toolchain name libraries=() work status=0
+    kit=$(kit_home) toolchain=$(kit)
+    for name in $(archive_libraries); do
+        libraries+=(--extern "$name=$top/crates/$name/out/rlib/$name.rlib")
     done
-    for job in "${jobs[@]}"; do wait "$job" || failed=1; done
-    return $failed
+    mkdir -p "$(dirname "$plain_archive")"
+    work=$(mktemp -d)
+    if [ -x "$toolchain/bin/clang" ]; then
+        keeping_toolchain "$work/toolchain"
+        toolchain=$work/toolchain
+    fi
+    (cd "$top/crates/$archive_crate" &&
+        "$kit/bin/rattle" build --crate-name "$archive_crate" --crate-type staticlib src/lib.rt \
+            --cpu x86-64 --links "$archive_crate=" --toolchain "$toolchain" \
+            --antt-project "$kit/rattle/logic/antt-project.json" --logic-built "$kit/logic_built" \
+            --extern "std=$kit/rlibs/std.rlib" -L "dependency=$kit/rlibs" "${libraries[@]}" \
+            -o "$plain_archive") || status=1
+    rm -rf "$work"
+    return $status
 }
 
-# prove_archives: the same with a line for each step; the prover's own notes go to a log.
-prove_archives() {
+# prove_parts: has rt prove the archive's crate and what it stands on, as far as that has changed.
+prove_parts() { (cd "$top/crates/$archive_crate" && rt check) && compile_archive; }
+
+# prove_archive: the same with a line for each step; the prover's own notes go to a log.
+prove_archive() {
     local log=$top/target/prove.log
     mkdir -p "$top/target"
     echo "Proving the display, some minutes the first time; the prover's notes are in $log" >&2
-    (cd "$top" && prove_parts) 2>&1 | tee "$log" | show_steps >&2 ||
-        fail "the display is not proved: $(grep -m 1 'NOT PROVED' "$log" || tail -n 1 "$log"); all of it is in $log"
+    prove_parts 2>&1 | tee "$log" | show_steps >&2 ||
+        fail "the display is not proved: $(first_fault "$log"); all of it is in $log"
 }
 
-# build_plain_archive: proves and builds the archives of the frame entry, of mending and of the
-# display's calls, and joins them in that one, where anything has changed. ADDLIB takes each member as it
-# is, so that members of one name all stay. The kit's llvm-ar knows x86-64 objects on every processor.
+# first_fault LOG: the first function of which the prover's notes say that it is not proved, or else their
+# last line.
+first_fault() { grep -m 1 -E '^fn .*: (not proved|no proof)' "$1" || tail -n 1 "$1"; }
+
+# build_plain_archive: proves and makes that archive where anything has changed.
 build_plain_archive() {
     if has_plain_archive; then return; fi
-    rm -f "$plain_archive"
-    prove_archives
-    {
-        echo CREATE libspoonwing.a
-        printf 'ADDLIB lib%s.a\n' $archive_crates
-        printf 'SAVE\nEND\n'
-    } | (cd "$(dirname "$plain_archive")" && "$(kit)/bin/llvm-ar" -M)
+    rm -f "$plain_archive" "$module"
+    prove_archive
 }
 
 # use_archive: has the archive for that processor made and names it in `archive`. Where there are no

@@ -85,7 +85,7 @@ def setUpModule():
 
 
 class Alone(Manners):
-    """A tree with the tools and no target, and stand-ins before the system's commands."""
+    """A tree with the tools and nothing built, and stand-ins before the system's commands."""
 
     def setUp(self):
         super().setUp()
@@ -93,7 +93,11 @@ class Alone(Manners):
         for name in ["tools", "include", "examples", "bench", ".ci"]:
             shutil.copytree(TOP / name, self.top / name)
         shutil.copy(TOP / "crates.txt", self.top)
-        (self.top / "crates").symlink_to(TOP / "crates")
+        for part in (TOP / "crates").glob("*/*"):
+            if part.name != "out":
+                crate = self.top / "crates" / part.parent.name
+                crate.mkdir(parents=True, exist_ok=True)
+                (crate / part.name).symlink_to(part)
         self.bin = Path(self.folder.name) / "bin"
         self.bin.mkdir()
         self.called = Path(self.folder.name) / "called"
@@ -142,7 +146,7 @@ class Programs(Alone):
         for words in ["run sheet", "sheet", "mend", "run figures"]:
             status, _, errors = self.tool(words)
             self.assertEqual(status, 1)
-            self.assert_one_line(errors, "is not built", f"rt check {words.split()[-1]}")
+            self.assert_one_line(errors, "is not built", f"crates/{words.split()[-1]}: rt run")
         for name in [f"{letter}-{name}" for letter in "cw" for name in ["host", "display", "mend", "floats"]]:
             status, _, errors = self.tool(name)
             self.assertEqual(status, 1)
@@ -155,7 +159,7 @@ class Programs(Alone):
             self.assert_one_line(errors, f"no program {name}", "figures, mend, sheet")
 
     def build(self, name):
-        program(self.top / "target/bin" / name, "#!/bin/bash\ncat 2>/dev/null\nexit 0\n")
+        program(self.top / "crates" / name / "out" / name, "#!/bin/bash\ncat 2>/dev/null\nexit 0\n")
 
     def test_lines_go_through(self):
         self.build("sheet")
@@ -205,24 +209,32 @@ class Packages(Alone):
 
 
 class Progress(Alone):
-    """A prover whose notes are long, and the kit's llvm-ar, which joins archives."""
+    """A prover whose notes are long, and the kit's compiler, which makes the archive."""
 
     RT = """case $1 in
-doc) echo {kit}/docs/guide.md ;;
+doc) echo {kit}/guide.md ;;
 check)
-    echo "fn lists::of: proved"
-    echo "rt: lists proved (3 s)"
-    echo "library std: modules loaded=0" >&2 ;;
-staticlib)
-    [ $2 != {bad} ] || {{ echo "rt: $2 NOT PROVED"; exit 1; }}
-    mkdir -p target/staticlib && touch target/staticlib/lib$2.a
-    echo "rt: target/staticlib/lib$2.a has the functions of $2" ;;
+    for name in lists repair; do
+        echo "rt: chose --jobs 2 for $name"
+        [ $name != {bad} ] || {{ echo "fn $name::of: no proof"; echo "rt: the library $name did not build"; exit 1; }}
+        echo "fn $name::of: proved"
+        echo "library std: modules loaded=0" >&2
+        echo "crate $name: modules loaded=0 checked=2"
+        echo "logic=proved functions=1"
+    done
+    echo "crate spoonwing: modules loaded=0 checked=2"
+    echo "logic=proved functions=18" ;;
 esac"""
+    COMPILER = """#!/bin/bash
+echo "crate spoonwing: modules loaded=2 checked=0"
+echo "logic=proved functions=18"
+touch "${@: -1}"
+"""
 
     def prove(self, bad, words="native x86-64"):
         kit = Path(self.folder.name) / "kit"
         self.stand_in("rt", self.RT.format(kit=kit, bad=bad))
-        program(kit / "on" / os.uname().machine / "toolchain/bin/llvm-ar", "#!/bin/bash\ncat >/dev/null; touch libspoonwing.a\n")
+        program(kit / "bin/rattle", self.COMPILER)
         return self.tool(words), self.top / "target/prove.log"
 
     def test_a_line_a_step(self):
@@ -231,8 +243,7 @@ esac"""
         first, *steps = errors.splitlines()
         self.assertIn(str(log), first)
         names = [step.split(": ")[1].split()[0] for step in steps]
-        self.assertEqual(names[0], "lists")
-        self.assertCountEqual(names[1:], ["host", "repair", "display"])
+        self.assertEqual(names, ["lists", "repair", "spoonwing"])
         self.assertIn("  1 of ", steps[0])
         self.assertIn("fn lists::of: proved", log.read_text())
         self.assertIn("library std", log.read_text())
@@ -241,7 +252,7 @@ esac"""
     def test_what_is_not_proved_names_the_log(self):
         (status, _, errors), log = self.prove("repair")
         self.assertEqual(status, 1)
-        self.assertIn(f"rt: repair NOT PROVED; all of it is in {log}", errors.splitlines()[-1])
+        self.assertIn(f"fn repair::of: no proof; all of it is in {log}", errors.splitlines()[-1])
         self.assertFalse((self.top / "target/staticlib/libspoonwing.a").exists())
 
     def test_without_means_for_a_module_one_line_says_so(self):
@@ -258,13 +269,14 @@ esac"""
 
     def test_the_number_of_steps_is_that_of_the_crates(self):
         """Worked out here from crates.txt anew."""
-        below = dict(line.split(":") for line in (TOP / "crates.txt").read_text().splitlines() if not line.startswith("#"))
-        parts, more = set(), {"host", "repair", "display"}
+        lines = [line.split(":") for line in (TOP / "crates.txt").read_text().splitlines() if not line.startswith("#")]
+        below = {name.split()[0]: more for name, more in lines}
+        parts, more = set(), {"spoonwing"}
         while more:
             parts |= more
             more = {name for part in more for name in below[part].split() if name in below} - parts
         (_, _, errors), _ = self.prove("none")
-        self.assertRegex(errors, f"  4 of {len(parts)}: (host|repair|display) is proved")
+        self.assertIn(f"  3 of {len(parts)}: spoonwing is proved", errors)
 
 
 class Built(Manners):

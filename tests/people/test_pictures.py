@@ -325,7 +325,7 @@ class Pictures(Case):
         for number in range(5):
             self.assertTrue(frames[2 + number] == pixels(self.folder / f"f-{number:05d}.png"), number)
 
-    @unittest.skipUnless((TOP / "target/bin/sheet").exists(), "`rt check sheet` builds it")
+    @unittest.skipUnless((TOP / "crates/sheet/out/sheet").exists(), "`rt run` in crates/sheet builds it")
     def test_the_sheet_program_prints_what_the_second_one_does(self):
         self.write("a.toml", SMALL + FADES)
         text = self.run_tool("sheet", "a.toml")[0].encode()
