@@ -1,14 +1,12 @@
 #!/usr/bin/env python3
-"""port_names.py: brings the repository's own names to the spelling of a newer Rattle.
-
-usage: tools/port_names.py before    before the kit's port.py: local names of modules lose their underscores, by
-                                     which it would take the files for newer ones
-       tools/port_names.py after     after it: definitions, fields and lemmas in snake case, in the pages too
-Functions of src/, exported names and strings keep theirs.
-"""
+# port_names.py before | after: brings the repository's own names to the spelling of a newer Rattle, at the top of
+# the tree. Before the kit's port.py local names of modules lose their underscores, by which it would take the files
+# for newer ones; after it definitions, fields and lemmas are put in snake case, in the pages too. Functions of src/,
+# exported names and strings keep theirs.
 import os
 import re
 import sys
+from itertools import takewhile
 
 # Lemmas that would have their definition's name once both are in snake case.
 LEMMAS = "box_in goes_on least_step on_row one_bit paint_bytes put_one two_bytes up_to".split()
@@ -74,7 +72,18 @@ def after():
         turn(path, lambda text: words.sub(snake, text))
 
 
+def main(words):
+    if "--help" in words or "-h" in words:
+        with open(__file__, encoding="utf-8") as f:
+            print(*(line[2:].rstrip() for line in takewhile(lambda it: it.startswith("#"), f.readlines()[1:])), sep="\n")
+    elif words not in (["before"], ["after"]):
+        print(f"port_names.py: its word is not {' '.join(words)}; usage: port_names.py before | after, and --help says more", file=sys.stderr)
+        sys.exit(2)
+    elif words == ["before"]:
+        before()
+    else:
+        after()
+
+
 if __name__ == "__main__":
-    if sys.argv[1:] not in (["before"], ["after"]):
-        sys.exit(__doc__)
-    before() if sys.argv[1] == "before" else after()
+    main(sys.argv[1:])
