@@ -229,9 +229,9 @@ prove_archive() {
         fail "the display is not proved: $(first_fault "$log"); all of it is in $log"
 }
 
-# first_fault LOG: the first function of which the prover's notes say that it is not proved, or else their
-# last line.
-first_fault() { grep -m 1 -E '^fn .*: (not proved|no proof)' "$1" || tail -n 1 "$1"; }
+# first_fault LOG: the first line of the prover's notes that tells of an error, or of a function that is not
+# proved, or else the last one.
+first_fault() { grep -m 1 -E '\berror[[:]|^fn .*: (not proved|no proof)' "$1" || tail -n 1 "$1"; }
 
 # build_plain_archive: proves and makes that archive where anything has changed.
 build_plain_archive() {
