@@ -212,7 +212,7 @@ compile_archive() {
             --cpu x86-64 --links "$archive_crate=" --toolchain "$toolchain" \
             --antt-project "$kit/rattle/logic/antt-project.json" --logic-built "$kit/logic_built" \
             --extern "std=$kit/rlibs/std.rlib" -L "dependency=$kit/rlibs" "${libraries[@]}" \
-            -o "$plain_archive") || status=1
+            --incremental out/incremental -o "$plain_archive") || status=1
     rm -rf "$work"
     return $status
 }
