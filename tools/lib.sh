@@ -231,7 +231,7 @@ prove_archive() {
 
 # first_fault LOG: the first line of the prover's notes that tells of an error, or of a function that is not
 # proved, or else the last one.
-first_fault() { grep -m 1 -E '\berror[[:]|^fn .*: (not proved|no proof)' "$1" || tail -n 1 "$1"; }
+first_fault() { grep -m 1 -E '\berror(\[|:)|^fn .*: (not proved|no proof)' "$1" || tail -n 1 "$1"; }
 
 # build_plain_archive: proves and makes that archive where anything has changed.
 build_plain_archive() {
