@@ -20,7 +20,7 @@
 //! And the files of PROOF-MAP's reading list have at most `MOST_READ` lines, and the rooms of
 //! docs/DECISIONS.md are listed in crates.txt by the crates that it names and by no other.
 //!
-//! `F-spec` is declared where the function F is. Faults are told all at once, each with its line.
+//! `F_spec` is declared where the function F is. Faults are told all at once, each with its line.
 
 mod reader;
 mod tree;
@@ -127,7 +127,7 @@ const LINES: [(&str, &str); 9] = [
     ),
     ("`words/specs/Fields`: `check_of` (`Check`)", "`words/specs/Check`: `check_of` (`Fields`)"),
     ("`check_of`", "`checked_of`"),
-    ("`start-spec` (`display/proofs/`)", "`start-spec` (`mix/proofs/`)"),
+    ("`start_spec` (`display/proofs/`)", "`start_spec` (`mix/proofs/`)"),
     ("`mix::fade`", "`span::fade`"),
     ("`RESERVED` of `starts/src/lib.rt`", "`RESERVED` of `order/src/lib.rt`"),
     ("`divide_by_256` of `mix`", "`divide_by_256` of `mix` and `words`"),

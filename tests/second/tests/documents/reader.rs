@@ -9,7 +9,7 @@ const WORDS: [&str; 4] = [
     "requires ensures pub use match loop axiom",
     "std io mathlib wrapping_sub_u32 wrapping_add_u32",
     "min set take drop length replicate eqb ltb leb",
-    "CALL-NUMBER CALL-tie CALL-unique CALL-down CALL-fixed CALL-untouched CALL-ground-last F-spec \
+    "CALL-NUMBER CALL-tie CALL-unique CALL-down CALL-fixed CALL-untouched CALL-ground-last F_spec \
      CRATE/proofs/../F/Invariants.antt CRATE/proofs/../F/Answers.antt",
 ];
 

@@ -81,7 +81,7 @@ impl Tree {
             return true;
         }
         let code = format!("{}/src", path.split('/').next().expect("a crate"));
-        name.ends_with("-spec") && self.at(&code).any(|names| names.contains(name))
+        name.ends_with("_spec") && self.at(&code).any(|names| names.contains(name))
     }
 
     pub fn is_edit(&self, label: &str) -> bool {
@@ -92,9 +92,8 @@ impl Tree {
 /// What a line of antt declares: `pub put_answer : ..`, `pub record Ready ..`, `low high : ℕ`.
 fn antt_names(line: &str) -> Vec<String> {
     let mut line = line.trim_start();
-    while let Some(rest) = ["pub ", "abbrev ", "opaque ", "unfoldable "]
-        .iter()
-        .find_map(|word| line.strip_prefix(word))
+    while let Some(rest) =
+        ["pub ", "abbrev ", "unfoldable "].iter().find_map(|word| line.strip_prefix(word))
     {
         line = rest;
     }
@@ -123,7 +122,7 @@ fn code_names(line: &str) -> Vec<String> {
     for pair in words.windows(2) {
         let name = pair[1].trim_end_matches(':');
         match pair[0] {
-            "fn" => names.extend([name.into(), format!("{}-spec", name.replace('_', "-"))]),
+            "fn" => names.extend([name.into(), format!("{name}_spec")]),
             "const" | "struct" | "mod" => names.push(name.into()),
             _ => {}
         }
