@@ -11,7 +11,7 @@
  *
  * Link with libspoonwing.a (`tools/install PREFIX` puts it, this header and a file for pkg-config
  * in place). It is code for the processor that libspoonwing.txt beside it names, and needs nothing
- * else but memcpy, memmove and memset of the C library.
+ * else but memcpy and memset of the C library.
  *
  * What holds for every call
  *   Buffers   Each pointer is followed by its length in bytes and must point to that many; but the

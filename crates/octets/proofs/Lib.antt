@@ -1,1 +1,2 @@
 pub mod FindLaws
+pub mod Unique

@@ -23,5 +23,7 @@ pub fn copy(part: &[u8], row: &mut [u8])
     requires { length part.now ≤ length row.old }
     ensures { row.new ≡ over part.now row.old }
 {
-    row[..part.len()].copy_from_slice(part);
+    for (i, byte) in part.iter().enumerate() {
+        row[i] = *byte;
+    }
 }
