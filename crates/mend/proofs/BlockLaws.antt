@@ -1,6 +1,6 @@
 -- Lines gathered from blocks and answered one after the other, as the code leaves them; and however the input
 -- is cut into blocks, they print what it prints whole. Assumes nothing.
-use Prim.Native.Nat.{ℕ, ◌+◌, ◌-◌, ◌<◌, ◌≤◌, min}
+use Prim.Native.Nat.{ℕ, suc, ◌+◌, ◌-◌, ◌<◌, ◌≤◌, min}
 use mathlib.Core.Path.{◌≡◌, refl, sym, ap, ◌∙◌}
 use mathlib.Core.Bool.{Bool, true, false}
 use mathlib.Core.Logic.{⊎_elim}
@@ -24,6 +24,7 @@ use Rattle.mend.specs.declared.Answered.{Answered}
 use Rattle.mend.specs.Sizes.{image_digits, image_kept, longest_line}
 use Rattle.mend.specs.Line.{line_reply, mend_line, mend_lines, mend_text}
 use Rattle.mend.specs.Blocks.{fed_text, last_text, answered_of, MendCourse}
+use Rattle.mend.specs.Failed.{turns_on, LeftBySome}
 
 -- ---- `feed`: r is what has been gathered from the bytes l into the text u, which was s, of a line that
 -- began with x
@@ -95,6 +96,41 @@ pass-end l u w held at long h e =
     ∙ ap (take image_kept) (sym (open_from-end (take held u)))
     ∙ ap (λ (z : List ℕ). take image_kept (open_from (take held u) z)) (sym (drop_of_length-le l h))
     ∙ e
+
+-- what turns from here on leave, turns on the whole block left, which found `first` bytes in the text u₀
+abbrev pub Turned : List ℕ → ℕ → List ℕ → ℕ → ℕ → List ℕ → Type 0
+Turned l first u₀ at held u = (u' : List ℕ) → LeftBySome (drop at l) held u u' → LeftBySome l first u₀ u'
+
+-- f is what `feed` answers on the bytes that are left, and u' the text that it leaves
+module _ (l u u' : List ℕ) (at held : ℕ) (f : Answered) (ef : f ≡ answered_of (take held u) (take (length l - at) (drop at l))) (eu : u' ≡ over (line_in image_kept (take held u) (take (length l - at) (drop at l))) u) where
+  -- some turns after that one are some with it
+  left-with : (v : List ℕ) → LeftBySome (drop (at + f.used) l) f.held u' v → LeftBySome (drop at l) held u v
+  unfolding turns_on
+  left-with v z =
+      let x = take held u in
+      let q : f ≡ answered_of x (drop at l) = ef ∙ ap (answered_of x) (rest-is l at) in
+      let t : u' ≡ over (line_in image_kept x (drop at l)) u =
+      eu ∙ ap (λ (y : List ℕ). over (line_in image_kept x y) u) (rest-is l at) in
+      let d : drop (at + f.used) l ≡ drop f.used (drop at l) = sym (drop-drop f.used at l) in (
+        suc z.0,
+        z.1
+            ∙ ap (λ (y : List ℕ). turns_on z.0 y f.held u') d
+            ∙ ap (λ (y : Answered). turns_on z.0 (drop y.used (drop at l)) y.held u') q
+            ∙ ap (turns_on z.0 (drop (answered_of x (drop at l)).used (drop at l)) (answered_of x (drop at l)).held) t,
+      )
+
+  left-now : LeftBySome (drop (at + f.used) l) f.held u' u'
+  unfolding turns_on
+  left-now = (0, refl)
+
+  module _ (first : ℕ) (u₀ : List ℕ) (k : Turned l first u₀ at held u) where
+    -- one turn more
+    pub turned-next : Turned l first u₀ (at + f.used) f.held u'
+    turned-next v z = k v (left-with v z)
+
+    -- one whose answer could not be written
+    pub left-by-last : LeftBySome l first u₀ u'
+    left-by-last = turned-next u' left-now
 
 -- ---- `finish`: n bytes are held
 

@@ -10,6 +10,7 @@ ghost use Rattle.texts.specs.Lines.{line_in};
 ghost use Rattle.texts.specs.Engine.Gathers.{open_from};
 ghost use Rattle.mend.specs.Sizes.{image_kept, longest_line};
 ghost use Rattle.mend.specs.Blocks.{fed_text, answered_of, last_text};
+ghost use Rattle.mend.specs.Failed.{LeftBySome};
 
 use crate::line::run_line;
 use crate::sizes::{IMAGE_KEPT, LONGEST_LINE};
@@ -84,7 +85,7 @@ fn write_front(rt: &impl Print, out: &[u8], n: usize) -> io::Result<()>
 }
 
 // A block, line by line; how many bytes of the next line it leaves. Each answer is written before the
-// next line is looked at. Where writing fails, the text keeps its length.
+// next line is looked at. Where writing fails, the text is as the turns until then left it.
 fn pass(
     rt: &impl Print,
     first: usize,
@@ -95,7 +96,7 @@ fn pass(
     requires { length text.old ≡ image_kept }
     ensures held { IfOk result (λ n. take n text.new
         ≡ take image_kept (open_from (take first text.old) block.now)) }
-    ensures failed { OnErr result (length text.new ≡ image_kept) }
+    ensures failed { OnErr result (LeftBySome block.now first text.old text.new) }
 {
     let mut held = first;
     let mut at: usize = 0;
