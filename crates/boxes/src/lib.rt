@@ -12,45 +12,49 @@ use draw::runs::fill_run;
 use tables::COLOUR_COUNT;
 
 // Whether the row that many places from the upper and the lower side is one run.
+#[tactic(auto, unfolding(draw::specs::Engine::Rows::whole_of))]
 fn is_whole(weight: usize, above: usize, below: usize, across: usize) -> bool
     requires { weight < 16 }
     ensures { result ≡ whole_of weight above below across }
 {
-    if weight == 0 {
-        return true;
-    }
-    if above < weight {
-        return true;
-    }
-    if below < weight {
-        return true;
-    }
-    across < 2 * weight
+    weight == 0 || above < weight || below < weight || across < 2 * weight
 }
 
-// Row v of a box that has this row.
-fn box_row(
-    line: &mut [u8],
+// A box: its first and its last column and row, how many pixels its outline is wide, or 0 for a filled one, and its
+// colour.
+#[derive(Clone, Copy)]
+struct Outline {
     x0: usize,
     x1: usize,
     y0: usize,
     y1: usize,
     weight: usize,
     colour: u8,
-    v: usize,
-)
-    requires { (x0 < 4096) × (x1 < 4096) × (y0 ≤ v) × (v ≤ y1) × (weight < 16) }
-    ensures { line.new ≡ each (box_after x0 x1 y0 y1 weight colour v) line.old }
+}
+
+// Row v of a box that has this row.
+fn box_row(line: &mut [u8], outline: Outline, v: usize)
+    requires { (outline.x0 < 4096) × (outline.x1 < 4096) × (outline.y0 ≤ v) × (v ≤ outline.y1) × (outline.weight < 16) }
+    ensures { line.new ≡ each
+        (box_after outline.x0 outline.x1 outline.y0 outline.y1 outline.weight outline.colour v) line.old }
 {
-    if x1 < x0 {
+    if outline.x1 < outline.x0 {
         return;
     }
-    if is_whole(weight, v - y0, y1 - v, x1 - x0) {
-        fill_run(line, x0, x1 + 1, colour);
+    let end = outline.x1 + 1;
+    let above = v - outline.y0;
+    let below = outline.y1 - v;
+    if is_whole(outline.weight, above, below, outline.x1 - outline.x0) {
+        fill_run(line, outline.x0, end, outline.colour);
         return;
     }
-    fill_run(line, x0, x0 + weight, colour);
-    fill_run(line, x1 + 1 - weight, x1 + 1, colour);
+    fill_run(
+        line,
+        outline.x0,
+        outline.x0 + outline.weight,
+        outline.colour,
+    );
+    fill_run(line, end - outline.weight, end, outline.colour);
 }
 
 // Row v of the box of instruction k. A row beside the box costs one word and two tests.
@@ -69,17 +73,13 @@ pub fn draw_box(line: &mut [u8], ins: &[u8], k: usize, v: usize)
     }
     let w0 = word_of(ins, k, 0);
     let w3 = word_of(ins, k, 3);
-    let x0 = w0 % 4096;
-    let x1 = w0 / 4096 % 4096;
-    let weight = w2 / 16777216 % 16;
-    box_row(
-        line,
-        x0,
-        x1,
+    let outline = Outline {
+        x0: w0 % 4096,
+        x1: w0 / 4096 % 4096,
         y0,
         y1,
-        weight,
-        (w3 % 256 % COLOUR_COUNT) as u8,
-        v,
-    );
+        weight: w2 / 16777216 % 16,
+        colour: (w3 % 256 % COLOUR_COUNT) as u8,
+    };
+    box_row(line, outline, v);
 }

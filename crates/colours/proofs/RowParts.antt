@@ -8,9 +8,9 @@ use lib.ListN.{length, get_or, set}
 use Rattle.lists.proofs.Choice.{split}
 use Rattle.sixteen.specs.Engine.Lanes.{Part, Reach, Front, Lanes, anew, Bytes, SameIs, HalfIs, store_byte}
 use Rattle.colours.specs.Rows.{pixel_byte, word_byte, colour_byte, solid_byte}
-use Rattle.colours.specs.Engine.Indexes.{EightIs, Same, words_byte}
-use Rattle.sixteen.proofs.PartLaws.{part_none, part-set, part_then, part-cong, part-to, reach-turn, reach-long}
-use Rattle.sixteen.proofs.PartLaws.{block-turn}
+use Rattle.colours.specs.Engine.Indexes.{Same, words_byte}
+use Rattle.sixteen.proofs.PartLaws.{part_none, part-set, part_then, part-cong, part-to, reach-turn}
+use Rattle.sixteen.proofs.PartLaws.{blocks-turn}
 use Rattle.colours.proofs.RowLaws.{by_place, pixel_byte-at}
 use Rattle.colours.proofs.PixelLaws.{halves-byte, word_byte-is}
 
@@ -29,11 +29,12 @@ pub word-block : (c at : ℕ) → at % 4 ≡ 0 → {l l₀ p w : List ℕ} → L
     → Part l l₀ (anew (word_byte c)) at (at + 64)
 word-block c at h ep ew pt = fill-block _ _ _ _ at h (record { p0 = refl; p1 = refl; p2 = refl; p3 = refl }) ep ew pt
 
-pub fill-turn : {r l l₀ p w : List ℕ} (c0 c1 c2 : ℕ) {c i : ℕ} → Front l l₀ (anew (solid_byte c0 c1 c2)) i
-    → 64 ≤ length l - i → Bytes c c0 c1 c2 255 → Lanes p 16 (SameIs c) → Lanes w 32 (HalfIs p)
-    → Part r l (anew (store_byte w i)) i (i + 64) → Front r l₀ (anew (solid_byte c0 c1 c2)) (i + 64)
-fill-turn c0 c1 c2 {i = i} p h b ep ew q =
-    block-turn p (reach-long p) h (fill-block c0 c1 c2 255 i p.border b ep ew q)
+pub fill-turn : {r l l₀ p w : List ℕ} (c0 c1 c2 : ℕ) {c k : ℕ} → Front l l₀ (anew (solid_byte c0 c1 c2)) (64 * k)
+    → k < length l₀ / 64 → Bytes c c0 c1 c2 255 → Lanes p 16 (SameIs c) → Lanes w 32 (HalfIs p)
+    → Part r l (anew (store_byte w (64 * k))) (64 * k) (64 * k + 64)
+    → Front r l₀ (anew (solid_byte c0 c1 c2)) (64 * (k + 1))
+fill-turn c0 c1 c2 {k = k} p h b ep ew q =
+    blocks-turn p refl h (fill-block c0 c1 c2 255 (64 * k) p.border b ep ew q)
 
 pub put4-part : (l : List ℕ) (c0 c1 c2 c3 i : ℕ) → i % 4 ≡ 0 → i + 4 ≤ length l
     → Part (set (set (set (set l i c0) (i + 1) c1) (i + 2) c2) (i + 3) c3) l (anew (pixel_byte c0 c1 c2 c3)) i (i + 4)
@@ -54,18 +55,6 @@ word-part c b0 b1 b2 b3 p e0 e1 e2 e3 = rw (← e0, ← e1, ← e2, ← e3) p
 
 -- ---- bytes that are one
 
-same-four : {s : List ℕ} {at c v p : ℕ}
-    → Bytes v (get_or s at 0) (get_or s (at + 1) 0) (get_or s (at + 2) 0) (get_or s (at + 3) 0) → Bytes p c c c c → v ≡ p
-    → Same s at 4 c
-same-four {s} {at} {c} {v} {p} b q e = record {
-  all = by_place (λ (k : ℕ). get_or s (at + k) 0 ≡ c)
-      (ap (λ (n : ℕ). get_or s n 0) (let z : at + 0 ≡ at = omega arith in z) ∙ sym b.p0 ∙ ap (λ (n : ℕ). n % 256) e
-      ∙ q.p0)
-      (sym b.p1 ∙ ap (λ (n : ℕ). n / 256 % 256) e ∙ q.p1)
-      (sym b.p2 ∙ ap (λ (n : ℕ). n / 65536 % 256) e ∙ q.p2)
-      (sym b.p3 ∙ ap (λ (n : ℕ). n / 16777216) e ∙ q.p3);
-}
-
 same_then : {s : List ℕ} {at n m c : ℕ} → Same s at n c → Same s (at + n) m c → Same s at (n + m) c
 same_then {s} {at} {n} {m} {c} a b = record {
   all = λ k lt. ⊎_elim
@@ -74,24 +63,6 @@ same_then {s} {at} {n} {m} {c} a b = record {
       ∙ b.all (k - n) (omega arith))
       (split k n);
 }
-
-pub byte-four-times : (c : ℕ) {v : ℕ} → c < 256 → v ≡ c * 16843009 → Bytes v c c c c
-byte-four-times c {v} h e = record {
-  p0 = omega arith;
-  p1 = let q : v / 256 ≡ c * 65793 = omega arith in rw q (omega arith);
-  p2 = let q : v / 65536 ≡ c * 257 = omega arith in rw q (omega arith);
-  p3 = omega arith;
-}
-
--- sixteen, compared by eight with one byte eight times
-module _ {s : List ℕ} {c q : ℕ} (bq : Bytes (q % 4294967296) c c c c × Bytes (q / 4294967296) c c c c) where
-  same-eight : {at v : ℕ} → EightIs s at v → v ≡ q → Same s at 8 c
-  same-eight b e =
-      same_then (same-four b.low bq.0 (ap (λ (n : ℕ). n % 4294967296) e))
-      (same-four b.high bq.1 (ap (λ (n : ℕ). n / 4294967296) e))
-
-  pub same-sixteen : {at v w : ℕ} → EightIs s at v → v ≡ q → EightIs s (at + 8) w → w ≡ q → Same s at 16 c
-  same-sixteen bv ev bw ew = same_then (same-eight bv ev) (same-eight bw ew)
 
 -- ---- words, and a line of indexes
 
@@ -129,13 +100,6 @@ colour-same line palette j x q ex e =
     (omega arith)
 
 module _ (line palette : List ℕ) {l₀ : List ℕ} {b : ℕ} where
-  -- a block more
-  pub colour-block : (j : ℕ) {r l : List ℕ} → Reach l l₀ (anew (colour_byte line palette)) b (4 * j)
-      → length l₀ ≡ 4 * length line → 16 ≤ length line - j
-      → Part r l (anew (colour_byte line palette)) (4 * j) (4 * (j + 16))
-      → Reach r l₀ (anew (colour_byte line palette)) b (4 * (j + 16))
-  colour-block j p e h q = reach-turn p q (omega arith) (omega arith) (omega arith)
-
   -- a pixel more
   pub colour-turn : (j x : ℕ) {r l : List ℕ} → Reach l l₀ (anew (colour_byte line palette)) b (4 * j)
       → length l₀ ≡ 4 * length line → j < length line

@@ -9,7 +9,8 @@ ghost use Rattle.colours.specs.Rows.{palette_len, colour_byte, solid_byte, Palet
 
 mod rows;
 
-pub use rows::{fill_rest, index_of, is_same, repeat16};
+use mix::Ground;
+pub use rows::{fill_rest, index_of, is_same, repeat16, solid_pixel};
 use sixteen::pixels::pixels;
 
 // The colours of a bank as words, for `expand`. They are as many as the pixels of a block, and are read
@@ -32,10 +33,10 @@ pub fn expand(line: &[u8], palette: &[u32; 16], row: &mut [u8])
 }
 
 // Fills a row with one opaque colour.
-pub fn fill(out: &mut [u8], c0: u8, c1: u8, c2: u8)
+pub fn fill(out: &mut [u8], ground: Ground)
     requires { length out.old % pixel_len ≡ 0 }
-    ensures { out.new ≡ tab (length out.old) (solid_byte c0 c1 c2) }
+    ensures { out.new ≡ tab (length out.old) (solid_byte ground.c0 ground.c1 ground.c2) }
 {
-    let i = rows::fill_blocks(out, c0, c1, c2);
-    rows::fill_rest(out, i, c0, c1, c2);
+    let i = rows::fill_blocks(out, ground);
+    rows::fill_rest(out, i, ground);
 }

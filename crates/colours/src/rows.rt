@@ -1,12 +1,12 @@
 // The loops that write a row without regard to what it held: a line of colour indexes as pixels,
 // and one pixel over and over.
 ghost use Rattle.std.specs.Prelude.{◌≡◌, true, ◌+◌, ◌*◌, ◌/◌, ◌%◌, ◌≤◌, ◌<◌, length, get_or};
-ghost use Rattle.mix.specs.Pixel.{pixel_len};
+ghost use Rattle.mix.specs.Pixel.{pixel_len, opaque};
 ghost use Rattle.sixteen.specs.Engine.Lanes.{block_len, Part, Front, anew, Bytes};
 ghost use Rattle.colours.specs.Rows.{pixel_byte, word_byte, colour_byte, solid_byte};
 ghost use Rattle.colours.specs.Engine.Indexes.{words_byte, EightIs, Same};
 
-use mix::{OPAQUE, PIXEL_LEN};
+use mix::{Ground, OPAQUE, PIXEL_LEN};
 use sixteen::digits::{byte0, byte1, byte2, byte3, pair, pixel_of};
 use sixteen::lanes::store;
 use sixteen::pixels::{halves, repeated};
@@ -103,15 +103,13 @@ fn expand16(line: &[u8], palette: &[u32; 16], row: &mut [u8], from: usize)
     ensures { Part row.new row.old
         (anew (colour_byte line.now palette.now)) (4 * from) (4 * (from + 16)) }
 {
-    let mut k = 0;
-    while k < 4 {
+    for k in 0..4 {
         let j = from + 4 * k;
         let c0 = palette[index_of(line[j])];
         let c1 = palette[index_of(line[j + 1])];
         let c2 = palette[index_of(line[j + 2])];
         let c3 = palette[index_of(line[j + 3])];
         put_words(row, PIXEL_LEN * j, c0, c1, c2, c3);
-        k = k + 1;
     }
 }
 
@@ -137,12 +135,11 @@ pub fn expand_blocks(line: &[u8], palette: &[u32; 16], row: &mut [u8]) -> usize
     ensures { Front row.new row.old
         (anew (colour_byte line.now palette.now)) (4 * result) }
 {
-    let mut j = 0;
-    while BLOCK_PIXELS <= line.len() - j {
-        expand_block(line, palette, row, j);
-        j = j + BLOCK_PIXELS;
+    let blocks = line.len() / BLOCK_PIXELS;
+    for k in 0..blocks {
+        expand_block(line, palette, row, BLOCK_PIXELS * k);
     }
-    j
+    BLOCK_PIXELS * blocks
 }
 
 // The pixels of a line from `from` on.
@@ -151,37 +148,39 @@ pub fn expand_rest(line: &[u8], palette: &[u32; 16], row: &mut [u8], from: usize
     ensures { Part row.new row.old
         (anew (colour_byte line.now palette.now)) (4 * from) (length row.old) }
 {
-    let mut j = from;
-    while j < line.len() {
+    for j in from..line.len() {
         let c = palette[index_of(line[j])];
         put_word(row, PIXEL_LEN * j, c);
-        j = j + 1;
     }
+}
+
+// The pixel of the ground as one word.
+pub fn solid_pixel(ground: Ground) -> u32
+    ensures { Bytes result ground.c0 ground.c1 ground.c2 opaque }
+{
+    pixel_of(ground.c0, ground.c1, ground.c2, OPAQUE)
 }
 
 // The blocks of a filled row, answering where they end.
-pub fn fill_blocks(out: &mut [u8], c0: u8, c1: u8, c2: u8) -> usize
-    ensures { Front out.new out.old (anew (solid_byte c0 c1 c2)) result }
+pub fn fill_blocks(out: &mut [u8], ground: Ground) -> usize
+    ensures { Front out.new out.old (anew (solid_byte ground.c0 ground.c1 ground.c2)) result }
 {
-    let p = repeated(pixel_of(c0, c1, c2, OPAQUE));
+    let p = repeated(solid_pixel(ground));
     let w = halves(p);
-    let mut i = 0;
-    while BLOCK_LEN <= out.len() - i {
-        store(out, i, w);
-        i = i + BLOCK_LEN;
+    let blocks = out.len() / BLOCK_LEN;
+    for k in 0..blocks {
+        store(out, BLOCK_LEN * k, w);
     }
-    i
+    BLOCK_LEN * blocks
 }
 
 // The pixels of a filled row from `from` on.
-pub fn fill_rest(out: &mut [u8], from: usize, c0: u8, c1: u8, c2: u8)
+pub fn fill_rest(out: &mut [u8], from: usize, ground: Ground)
     requires { (length out.old % pixel_len ≡ 0) × (from ≤ length out.old) × (from % pixel_len ≡ 0) }
     ensures { Part out.new out.old
-        (anew (solid_byte c0 c1 c2)) from (length out.old) }
+        (anew (solid_byte ground.c0 ground.c1 ground.c2)) from (length out.old) }
 {
-    let mut i = from;
-    while i < out.len() {
-        put4(out, i, c0, c1, c2, OPAQUE);
-        i = i + PIXEL_LEN;
+    for k in from / PIXEL_LEN..out.len() / PIXEL_LEN {
+        put4(out, PIXEL_LEN * k, ground.c0, ground.c1, ground.c2, OPAQUE);
     }
 }

@@ -1,12 +1,12 @@
 -- A state taken apart and put back, and the cases of a door. Assumes nothing.
-use Rattle.std.proofs.Common.{◌≡◌, ℕ, ◌+◌, ◌*◌, ◌/◌, ◌%◌, ◌<◌, ◌≤◌, Bool, eqb, ltb, List, [], ◌∷◌, ◌++◌, length, get_or, sym, refl, ap, ◌∙◌, arith, get_or-append-add, eq-eqb, ne_eqb}
+use Rattle.std.proofs.Common.{◌≡◌, ℕ, ◌+◌, ◌*◌, ◌/◌, ◌%◌, ◌<◌, ◌≤◌, Bool, true, false, eqb, ltb, List, [], ◌∷◌, ◌++◌, length, get_or, sym, refl, ap, ◌∙◌, arith, get_or-append-add, eq-eqb, ne_eqb}
 use borrow.Rule.Slice.PartMut.{put_mid}
+use Rattle.std.specs.Int.{from_bool}
 use lib.ListN.{get_or-append}
 use Rattle.lists.specs.Choice.{pick}
 use Rattle.lists.specs.Little.{little_at}
 use Rattle.lists.specs.Bytes.{little_bytes}
 use Rattle.lists.specs.Tab.{tab}
-use Rattle.lists.proofs.Choice.{pick-keeps}
 use Rattle.lists.proofs.Upto.{upto-none}
 use Rattle.lists.proofs.Little.{words-turn, words-bytes}
 use Rattle.answers.specs.Answers.{state_length}
@@ -70,8 +70,13 @@ module _ (d : Display) (p : length d.pending ≡ 52) where
 
 -- ---- put back, part by part
 
-pub flag-le : (b : Bool) → pick b 1 0 ≤ 1
-flag-le b = pick-keeps (λ (n : ℕ). n ≤ 1) b 1 0 (λ t. omega arith) (λ f. omega arith)
+pub flag-is : (b : Bool) → from_bool b ≡ pick b 1 0
+flag-is true = refl
+flag-is false = refl
+
+pub flag-le : (b : Bool) → from_bool b ≤ 1
+flag-le true = omega arith
+flag-le false = omega arith
 
 pub state-bytes : (d : Display) (l p₁ p₂ p₃ : List ℕ) (made chosen : ℕ) → length d.pending ≡ 52 → length d.active ≡ 52
     → length l ≡ state_len → made ≡ pick d.selection.made 1 0 → chosen ≡ choices_of d.profile

@@ -8,10 +8,9 @@ use Rattle.order.specs.declared.Layout.{Layout}
 use Rattle.order.specs.Layout.{layout_of}
 use Rattle.display.specs.declared.Display.{Display}
 use Rattle.display.specs.declared.Told.{Told}
-use Rattle.display.specs.declared.Verdict.{Verdict}
 use Rattle.display.specs.State.{display, told, with_active, with_frame, stepped, check_in, start_of}
 use Rattle.display.specs.Doors.{with_layout}
-use Rattle.display.specs.Engine.Verdict.{verdict_of}
+use Rattle.display.specs.Engine.Verdict.{Verdict, verdict_of}
 
 -- a start by the update bit u and by whether the words pass, c, where their check answers n
 abbrev by_tests : Display → Bool → Bool → ℕ → Told

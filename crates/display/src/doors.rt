@@ -1,5 +1,7 @@
 // The calls of a display for a host in C, over a state that it lends as bytes: each takes the bytes apart,
 // makes the call and puts them back. To Rattle the state stays closed: nothing here hands out a `Display`.
+#![tactic(auto, using(crate::proofs::DoorCases::doors), unfolding(crate::specs::Doors::choices_of))]
+
 ghost use Rattle.std.specs.Prelude.{◌≡◌, true, length};
 ghost use Rattle.lists.specs.Choice.{pick};
 ghost use Rattle.words.specs.Fields.{width_of, height_of};
@@ -13,7 +15,7 @@ ghost use Rattle.display.specs.Doors.{with_layout, state_len, taken_of, state_by
 ghost use Rattle.display.specs.Doors.{choices_of, door_buffer, door_read};
 
 use crate::{Display, Told, begun, told_by};
-use answers::STATE_LENGTH;
+use answers::Refusal;
 use numbers::put_words;
 use order::{layout_of, no_layers};
 use profiles::Profile;
@@ -23,6 +25,9 @@ use words::image::{word_at, words_at};
 // Pending words, active words, frame number, error word, whether something is selected, selection, place,
 // what was chosen.
 const STATE_LEN: usize = 440;
+
+// What a door answers to a state of another length.
+const STATE_LENGTH: u32 = Refusal::StateLength as u32;
 
 // ---- the state
 
@@ -67,19 +72,10 @@ fn taken(state: &[u8]) -> Display
     d
 }
 
-fn flag_of(set: bool) -> u32
-    ensures { result ≡ pick set 1 0 }
-{
-    if set {
-        return 1;
-    }
-    0
-}
-
 fn choices_of(profile: Profile) -> u32
     ensures { result ≡ choices_of profile }
 {
-    let soft = flag_of(profile.soft);
+    let soft = u32::from(profile.soft);
     if profile.floats {
         return soft;
     }
@@ -90,7 +86,7 @@ fn put_back(d: Display, state: &mut [u8])
     requires { length state.old ≡ state_len }
     ensures { state.new ≡ state_bytes d }
 {
-    let made = flag_of(d.selection.made);
+    let made = u32::from(d.selection.made);
     let chosen = choices_of(d.profile);
     let last: [u32; 6] = [
         d.frame,
@@ -112,17 +108,18 @@ fn given(told: Told, state: &mut [u8]) -> u32
     ensures state { state.new ≡ state_bytes told.state }
 {
     put_back(told.state, state);
-    told.answer as u32
+    u32::from(told.answer)
 }
 
-// ---- the doors: a state of another length is refused with 23, and all is as it was
+// ---- the doors: a state of another length is refused with 23, and all is as it was. Each tests the length by itself: of a
+// call that is handed on as a closure nothing is known of what it leaves in the buffers that it borrows.
 
 pub fn spoonwing_display_new(state: &mut [u8], bits: u32) -> u32
     ensures answer { result ≡ door_answer state.old (λ _. new_of bits true) }
     ensures state { state.new ≡ door_state state.old (λ _. new_of bits true) }
 {
     if state.len() != STATE_LEN {
-        return STATE_LENGTH as u32;
+        return STATE_LENGTH;
     }
     given(Display::new(bits, true), state)
 }
@@ -132,7 +129,7 @@ pub fn spoonwing_display_write(state: &mut [u8], register: u32, value: u32) -> u
     ensures state { state.new ≡ door_state state.old (λ d. write_of d register value) }
 {
     if state.len() != STATE_LEN {
-        return STATE_LENGTH as u32;
+        return STATE_LENGTH;
     }
     given(bare(state).write(register, value), state)
 }
@@ -142,7 +139,7 @@ pub fn spoonwing_display_select(state: &mut [u8], selection: u32) -> u32
     ensures state { state.new ≡ door_state state.old (λ d. select_of d selection) }
 {
     if state.len() != STATE_LEN {
-        return STATE_LENGTH as u32;
+        return STATE_LENGTH;
     }
     given(bare(state).select(selection), state)
 }
@@ -152,7 +149,7 @@ pub fn spoonwing_display_toggle(state: &mut [u8], bits: u32) -> u32
     ensures state { state.new ≡ door_state state.old (λ d. toggle_of d bits) }
 {
     if state.len() != STATE_LEN {
-        return STATE_LENGTH as u32;
+        return STATE_LENGTH;
     }
     given(bare(state).toggle(bits), state)
 }
@@ -162,7 +159,7 @@ pub fn spoonwing_display_start(state: &mut [u8]) -> u32
     ensures state { state.new ≡ door_state state.old (λ d. start_of d) }
 {
     if state.len() != STATE_LEN {
-        return STATE_LENGTH as u32;
+        return STATE_LENGTH;
     }
     given(begun(bare(state)), state)
 }
@@ -174,7 +171,7 @@ pub fn spoonwing_display_put(state: &mut [u8], tables: &mut [u8], byte: u8) -> u
         ≡ door_buffer state.old (λ d. put_tables d tables.old byte) tables.old }
 {
     if state.len() != STATE_LEN {
-        return STATE_LENGTH as u32;
+        return STATE_LENGTH;
     }
     given(bare(state).put(tables, byte), state)
 }
@@ -197,7 +194,7 @@ pub fn spoonwing_display_put_run(
 {
     if state.len() != STATE_LEN {
         *done = 0;
-        return STATE_LENGTH as u32;
+        return STATE_LENGTH;
     }
     let ran = bare(state).put_run(tables, run);
     *done = ran.done;
@@ -213,7 +210,7 @@ pub fn spoonwing_display_write_run(state: &mut [u8], run: &[u8], done: &mut usiz
 {
     if state.len() != STATE_LEN {
         *done = 0;
-        return STATE_LENGTH as u32;
+        return STATE_LENGTH;
     }
     let ran = bare(state).write_run(run);
     *done = ran.done;
@@ -227,7 +224,7 @@ pub fn spoonwing_display_fill(state: &mut [u8], out: &mut [u8]) -> u32
         ≡ door_buffer state.old (λ d. fill_bytes d out.old) out.old }
 {
     if state.len() != STATE_LEN {
-        return STATE_LENGTH as u32;
+        return STATE_LENGTH;
     }
     given(bare(state).fill(out), state)
 }
@@ -250,7 +247,7 @@ pub fn spoonwing_display_paint(
         floats.now out.old) out.old }
 {
     if state.len() != STATE_LEN {
-        return STATE_LENGTH as u32;
+        return STATE_LENGTH;
     }
     given(
         taken(state).paint(low, high, tables, pictures, floats, out),
@@ -274,7 +271,7 @@ pub fn spoonwing_display_frame(
         floats.now out.old) out.old }
 {
     if state.len() != STATE_LEN {
-        return STATE_LENGTH as u32;
+        return STATE_LENGTH;
     }
     given(taken(state).frame(tables, pictures, floats, out), state)
 }
@@ -296,7 +293,7 @@ pub fn spoonwing_display_line(
         floats.now out.old) out.old }
 {
     if state.len() != STATE_LEN {
-        return STATE_LENGTH as u32;
+        return STATE_LENGTH;
     }
     given(taken(state).line(y, tables, pictures, floats, out), state)
 }

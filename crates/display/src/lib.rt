@@ -1,8 +1,9 @@
 // The display's state and its calls. Each call takes the state and hands it back with an answer, and
 // a refusal leaves what the answer's row in `answers` says.
-#![tactic(auto)]
+#![tactic(auto, using(lists::proofs::Tests::tests))]
 
 ghost use Rattle.std.specs.Prelude.{◌≡◌};
+ghost use Rattle.answers.specs.Refusals.{answer_of};
 ghost use Rattle.profiles.specs.Profile.{profile_of};
 ghost use Rattle.words.specs.Fields.{width_of, height_of};
 ghost use Rattle.display.specs.State.{fresh, with_errors, with_place, told};
@@ -11,13 +12,16 @@ ghost use Rattle.display.specs.State.{new_of, write_of, select_of, toggle_of, st
 ghost use Rattle.display.specs.Put.{put_of, put_tables};
 ghost use Rattle.display.specs.Runs.{ran, told_by, put_run_of, put_run_tables, write_run_of};
 ghost use Rattle.display.specs.Paint.{fill_told, fill_bytes, paint_told, paint_bytes, frame_told, frame_bytes};
-ghost use Rattle.display.specs.Paint.{line_told, line_bytes};
+ghost use Rattle.display.specs.Paint.{scene_with, line_told, line_bytes};
+ghost use Rattle.paint.specs.Given.{scene_in};
+ghost use Rattle.paint.specs.Painted.{painted_by};
 ghost use Rattle.display.specs.Reached.{Arranged};
-ghost use Rattle.display.specs.Engine.Verdict.{verdict_of};
+ghost use Rattle.display.specs.Engine.Verdict.{verdict_by, verdict_of};
 
-use answers::{DONE, GLYPH_BITS, NO_REGISTER, NO_SELECTION};
+use answers::{Refusal, answer_of};
 use loads::{Loaded, REGISTERS};
 use order::{Layout, layout_of, no_layers};
+use paint::scene::Scene;
 use profiles::{Profile, bits_of};
 use starts::refusal_of;
 use tables::Selection;
@@ -28,7 +32,8 @@ pub mod doors;
 const SELECTIONS: u32 = 64;
 
 // Only `new` and the calls below make one: its fields are closed to other crates. So what painting asks of a state
-// (`Arranged`) is so of every one.
+// (`Arranged`) is so of every one. It is no ghost field, since `doors` makes one without its layout for calls that paint
+// nothing.
 #[derive(Clone, Copy)]
 pub struct Display {
     pending: [u32; 52],
@@ -41,7 +46,8 @@ pub struct Display {
     layout: Layout,
 }
 
-// What a call answers: the state afterwards, and 0 or the number of the refusal.
+// What a call answers: the state afterwards, and 0 or the number of the refusal. It is no Result, since a refusal has a
+// state too: a refused start steps the frame number.
 #[derive(Clone, Copy)]
 pub struct Told {
     pub state: Display,
@@ -82,11 +88,11 @@ fn told_by(ran: Ran) -> Told
     }
 }
 
-// A display to which nothing has happened, and an answer.
-fn made(soft: bool, floats: bool, answer: u8) -> Told
-    ensures { result ≡ told (fresh (profile_of soft floats)) answer }
+// A display to which nothing has happened.
+fn fresh(soft: bool, floats: bool) -> Display
+    ensures { result ≡ fresh (profile_of soft floats) }
 {
-    let state = Display {
+    Display {
         pending: [0; 52],
         active: [0; 52],
         frame: 0,
@@ -98,32 +104,18 @@ fn made(soft: bool, floats: bool, answer: u8) -> Told
         },
         profile: Profile { soft, floats },
         layout: no_layers(),
-    };
-    Told { state, answer }
+    }
 }
 
-// What a start makes of the pending words: whether they become the active ones, and its answer.
-#[derive(Clone, Copy)]
-struct Verdict {
-    passes: bool,
-    answer: u8,
-}
-
-fn verdict_on(floats: bool, pending: &[u32; 52]) -> Verdict
-    ensures { result ≡ verdict_of floats pending.now }
+// What a start makes of the pending words: whether they become the active ones, or why they are refused.
+fn verdict_on(floats: bool, pending: &[u32; 52]) -> Result<bool, Refusal>
+    ensures { verdict_by result ≡ verdict_of floats pending.now }
 {
     if !is_update(pending) {
-        return Verdict {
-            passes: false,
-            answer: DONE,
-        };
+        return Ok(false);
     }
-    let refusal = refusal_of(floats, pending);
-    let passes = refusal == DONE;
-    Verdict {
-        passes,
-        answer: refusal,
-    }
+    refusal_of(floats, pending)?;
+    Ok(true)
 }
 
 // A start, but for what is held of the active words: a state in bytes does not hold it.
@@ -133,13 +125,14 @@ fn begun(mut state: Display) -> Told
     let frame = state.frame;
     state.frame = std::num::wrapping_add_u32(frame, 1);
     let pending = state.pending;
-    let verdict = verdict_on(state.profile.floats, &pending);
-    let answer = verdict.answer;
-    if verdict.passes {
-        state.active = pending;
-        return Told { state, answer };
+    match verdict_on(state.profile.floats, &pending) {
+        Ok(true) => {
+            state.active = pending;
+            state.tell(Ok(()))
+        }
+        Ok(false) => state.tell(Ok(())),
+        Err(refusal) => state.tell(Err(refusal)),
     }
-    Told { state, answer }
 }
 
 impl Display {
@@ -149,13 +142,51 @@ impl Display {
     pub fn new(bits: u32, floats: bool) -> Told
         ensures { result ≡ new_of bits floats }
     {
-        if bits == 1 {
-            return made(false, floats, DONE);
+        match bits {
+            1 => fresh(false, floats).tell(Ok(())),
+            2 => fresh(true, floats).tell(Ok(())),
+            _ => fresh(false, floats).tell(Err(Refusal::GlyphBits)),
         }
-        if bits == 2 {
-            return made(true, floats, DONE);
+    }
+
+    // What a call that leaves this state answers.
+    fn tell(self, outcome: Result<(), Refusal>) -> Told
+        ensures { result ≡ told self (answer_of outcome) }
+    {
+        Told {
+            state: self,
+            answer: answer_of(outcome),
         }
-        made(false, floats, GLYPH_BITS)
+    }
+
+    // What it answers where painting gave that: of a refusal the state stays as it was.
+    fn painted(mut self, outcome: Result<u32, Refusal>) -> Told
+        ensures { result ≡ told (with_errors self (painted_by outcome self.errors).errors)
+            (painted_by outcome self.errors).answer }
+    {
+        match outcome {
+            Ok(errors) => {
+                self.errors = errors;
+                self.tell(Ok(()))
+            }
+            Err(refusal) => self.tell(Err(refusal)),
+        }
+    }
+
+    // What it is painted from.
+    fn scene<'a>(&'a self, tables: &'a [u8], pictures: &'a [u8], floats: &'a [f32]) -> Scene<'a>
+        requires { Arranged self.now }
+        ensures { scene_in result ≡ scene_with self.now tables.now pictures.now floats.now }
+    {
+        Scene {
+            profile: self.profile,
+            words: &self.active,
+            layout: self.layout,
+            frame: self.frame,
+            tables,
+            pictures,
+            floats,
+        }
     }
 
     // Changes a pending word. A register above 51 is refused with 1, and all is as it was.
@@ -163,17 +194,11 @@ impl Display {
         ensures { result ≡ write_of self register value }
     {
         if REGISTERS <= register {
-            return Told {
-                state: self,
-                answer: NO_REGISTER,
-            };
+            return self.tell(Err(Refusal::NoRegister));
         }
         let at = register as usize;
         self.pending[at] = value;
-        Told {
-            state: self,
-            answer: DONE,
-        }
+        self.tell(Ok(()))
     }
 
     // Selects a table for `put`, from its first byte on. A selection above 63 is refused with 2, and
@@ -182,10 +207,7 @@ impl Display {
         ensures { result ≡ select_of self selection }
     {
         if SELECTIONS <= selection {
-            return Told {
-                state: self,
-                answer: NO_SELECTION,
-            };
+            return self.tell(Err(Refusal::NoSelection));
         }
         let chosen = Selection {
             made: true,
@@ -193,10 +215,7 @@ impl Display {
             place: 0,
         };
         self.selection = chosen;
-        Told {
-            state: self,
-            answer: DONE,
-        }
+        self.tell(Ok(()))
     }
 
     // Turns over each bit of the error word that is set in `bits`. It is never refused.
@@ -204,10 +223,7 @@ impl Display {
         ensures { result ≡ toggle_of self bits }
     {
         self.errors = self.errors ^ bits;
-        Told {
-            state: self,
-            answer: DONE,
-        }
+        self.tell(Ok(()))
     }
 
     // Begins the next frame. With the pending update bit set the pending words are checked, and become
@@ -219,20 +235,16 @@ impl Display {
         let next = std::num::wrapping_add_u32(frame, 1);
         let pending = self.pending;
         let verdict = verdict_on(self.profile.floats, &pending);
-        let answer = verdict.answer;
         self.frame = next;
-        if !verdict.passes {
-            return Told {
-                state: self,
-                answer,
-            };
-        }
-        self.active = pending;
-        let layout = layout_of(&pending);
-        self.layout = layout;
-        Told {
-            state: self,
-            answer,
+        match verdict {
+            Ok(true) => {
+                self.active = pending;
+                let layout = layout_of(&pending);
+                self.layout = layout;
+                self.tell(Ok(()))
+            }
+            Ok(false) => self.tell(Ok(())),
+            Err(refusal) => self.tell(Err(refusal)),
         }
     }
 
@@ -281,22 +293,21 @@ impl Display {
 
     // Fills the output with the background. Refused with 12 where no start has given the output a size,
     // and with 13 where `out` is not 4 bytes for each pixel; a refusal changes nothing.
+    #[tactic(auto, using(lists::proofs::Tests::tests), unfolding(crate::specs::Paint::fill_told, crate::specs::Paint::fill_bytes))]
     pub fn fill(self, out: &mut [u8]) -> Told
         ensures state { result ≡ fill_told self out.old }
         ensures output { out.new ≡ fill_bytes self out.old }
     {
-        let answer = paint::fill(&self.active, out);
-        Told {
-            state: self,
-            answer: answer,
-        }
+        let outcome = paint::fill(&self.active, out);
+        self.tell(outcome)
     }
 
     // Paints the layers of depths from `low` up to but not `high` over what `out` holds, and sets error bit
     // 4n for each graphics layer n among them whose list has no END. Refused with 15, 12, 13, 6, 14, 18 in
     // this order; a refusal changes nothing.
+    #[tactic(auto, using(lists::proofs::Tests::tests), unfolding(crate::specs::Paint::paint_told, crate::specs::Paint::paint_bytes))]
     pub fn paint(
-        mut self,
+        self,
         low: u32,
         high: u32,
         tables: &[u8],
@@ -310,59 +321,29 @@ impl Display {
         ensures output { out.new
             ≡ paint_bytes self low high tables.now pictures.now floats.now out.old }
     {
-        let profile = self.profile;
-        let layout = self.layout;
-        let painted = paint::band(
-            profile,
-            &self.active,
-            layout,
-            self.frame,
-            self.errors,
-            low,
-            high,
-            tables,
-            pictures,
-            floats,
-            out,
-        );
-        self.errors = painted.errors;
-        Told {
-            state: self,
-            answer: painted.answer,
-        }
+        let scene = self.scene(tables, pictures, floats);
+        let outcome = paint::band(&scene, self.errors, low, high, out);
+        self.painted(outcome)
     }
 
     // Paints a whole frame: a fill, and the layers of every depth. Refused as `paint` is, before the fill.
-    pub fn frame(mut self, tables: &[u8], pictures: &[u8], floats: &[f32], out: &mut [u8]) -> Told
+    #[tactic(auto, using(lists::proofs::Tests::tests), unfolding(crate::specs::Paint::frame_told, crate::specs::Paint::frame_bytes, crate::specs::Paint::paint_told))]
+    pub fn frame(self, tables: &[u8], pictures: &[u8], floats: &[f32], out: &mut [u8]) -> Told
         requires { Arranged self }
         ensures state { result ≡ frame_told self tables.now pictures.now floats.now out.old }
         ensures output { out.new
             ≡ frame_bytes self tables.now pictures.now floats.now out.old }
     {
-        let profile = self.profile;
-        let layout = self.layout;
-        let painted = paint::frame(
-            profile,
-            &self.active,
-            layout,
-            self.frame,
-            self.errors,
-            tables,
-            pictures,
-            floats,
-            out,
-        );
-        self.errors = painted.errors;
-        Told {
-            state: self,
-            answer: painted.answer,
-        }
+        let scene = self.scene(tables, pictures, floats);
+        let outcome = paint::frame(&scene, self.errors, out);
+        self.painted(outcome)
     }
 
     // Paints line y of a whole frame into `out`, which has that line alone, whatever it held; the error bits are those
     // of the whole frame. Refused with 12, 15, 13, 6, 14, 18 in this order; a refusal changes nothing.
+    #[tactic(auto, using(lists::proofs::Tests::tests), unfolding(crate::specs::Paint::line_told, crate::specs::Paint::line_bytes))]
     pub fn line(
-        mut self,
+        self,
         y: u32,
         tables: &[u8],
         pictures: &[u8],
@@ -374,25 +355,9 @@ impl Display {
         ensures output { out.new
             ≡ line_bytes self y tables.now pictures.now floats.now out.old }
     {
-        let profile = self.profile;
-        let layout = self.layout;
-        let painted = paint::line(
-            profile,
-            &self.active,
-            layout,
-            self.frame,
-            self.errors,
-            y,
-            tables,
-            pictures,
-            floats,
-            out,
-        );
-        self.errors = painted.errors;
-        Told {
-            state: self,
-            answer: painted.answer,
-        }
+        let scene = self.scene(tables, pictures, floats);
+        let outcome = paint::line(&scene, self.errors, y, out);
+        self.painted(outcome)
     }
 
     // Painting layer n from a list without END sets bit 4n, a put past the end of a table of controller g bit

@@ -23,6 +23,7 @@ pub fn opcode(ins: &[u8], k: usize) -> usize
 }
 
 // How many pixels wide and high a pixel of a glyph is, by the two bits of the field.
+#[tactic(auto, unfolding(crate::specs::Instruction::scale_of))]
 pub fn scale(n: usize) -> usize
     requires { n < 4 }
     ensures { (result ≡ scale_of n) × (0 < result) × (result ≤ 8) }

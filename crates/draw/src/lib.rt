@@ -9,6 +9,7 @@ ghost use Rattle.draw.specs.Drawing.{list_end};
 use crate::instruction::opcode;
 use tables::INSTRUCTION_COUNT;
 
+pub mod banks;
 pub mod instruction;
 pub mod runs;
 
@@ -19,7 +20,8 @@ pub struct ListEnd {
     pub count: usize,
 }
 
-// The end of an instruction list: its first END, or the end of all 48.
+// The end of an instruction list: its first END, or the end of all 48. A loop that is left at END, as the list is
+// told of: whether one was found is what it yields.
 pub fn list_end(ins: &[u8]) -> ListEnd
     requires { length ins.now ≡ list_len }
     ensures { result ≡ list_end ins.now }
@@ -34,8 +36,5 @@ pub fn list_end(ins: &[u8]) -> ListEnd
         }
         k += 1;
     };
-    ListEnd {
-        found: found,
-        count: k,
-    }
+    ListEnd { found, count: k }
 }

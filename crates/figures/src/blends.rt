@@ -1,27 +1,29 @@
 // Every blend at one alpha, painted over a dirty buffer: a screen of 256 by 86 pixels, whose
 // channels in a row are pairs of what lies over and what is under, 65,536 different ones.
 ghost use Rattle.std.specs.Prelude.{◌≡◌, length};
-ghost use Rattle.display.specs.Reached.{Arranged};
 
+use crate::buffers::TABLES_LEN;
 use crate::checksum::{NONE, checksum, with_byte};
-use crate::screen::{GLOBAL, covered_screen, started, written};
-use crate::{buffers, print};
-use display::Display;
+use crate::print;
+use crate::screen::{GLOBAL, Lent, Screen};
+use numbers::filled;
 use std::io;
 
 const SIZE: u32 = 86 * 65536 + 256;
 
+// The bytes of that screen, by a call that tells how many they are.
 fn pixels() -> [u8; 88064]
     ensures { 88064 ≡ length result }
 {
-    [0; 88064]
+    filled(0)
 }
 
 // The screen with a layer all over it that has that alpha word, started.
-fn layered(word: u32) -> Display
-    ensures { Arranged result }
-{
-    started(written(covered_screen(SIZE), 5, word))
+fn layered(word: u32) -> Screen {
+    let mut screen = Screen::covered(SIZE);
+    screen.write(5, word);
+    screen.start();
+    screen
 }
 
 // The number of the pair that a byte of the screen belongs to. An alpha byte has the next one's.
@@ -31,17 +33,15 @@ fn pair_of(i: usize) -> usize {
 
 // What lies under: the pair's higher byte, and that in the alpha bytes too, which must stay.
 fn lay_under(out: &mut [u8]) {
-    let mut i = 0;
-    while i < out.len() {
-        out[i] = (pair_of(i) / 256 % 256) as u8;
-        i += 1;
+    for (i, byte) in out.iter_mut().enumerate() {
+        *byte = (pair_of(i) / 256 % 256) as u8;
     }
 }
 
 // The alpha of the pixel that a byte belongs to: one for all, or one more from pixel to pixel.
 fn alpha_at(i: usize, alpha: u8, mixed: bool) -> u8 {
     if mixed {
-        return (((alpha as usize) + i / 4 % 256) % 256) as u8;
+        return ((usize::from(alpha) + i / 4 % 256) % 256) as u8;
     }
     alpha
 }
@@ -55,10 +55,8 @@ fn over_at(i: usize, alpha: u8, mixed: bool) -> u8 {
 
 // What lies over: the pair's lower byte, with an alpha.
 fn lay_over(pictures: &mut [u8], alpha: u8, mixed: bool) {
-    let mut i = 0;
-    while i < pictures.len() {
-        pictures[i] = over_at(i, alpha, mixed);
-        i += 1;
+    for (i, byte) in pictures.iter_mut().enumerate() {
+        *byte = over_at(i, alpha, mixed);
     }
 }
 
@@ -74,7 +72,12 @@ fn painted(
     let none: [f32; 0] = [];
     lay_over(pictures, alpha, mixed);
     lay_under(out);
-    layered(word).paint(0, 8, tables, pictures, &none, out);
+    let lent = Lent {
+        tables,
+        pictures,
+        floats: &none,
+    };
+    layered(word).paint(0, 8, lent, out);
     checksum(out)
 }
 
@@ -92,12 +95,12 @@ fn called(alpha: u8) -> u32 {
 // Four checksums: the alpha is each pixel's own; it is the layer's, and the pixels' own is another;
 // it is the first pixel's, and the next pixel's is one more; `mix::blend` alone.
 pub fn show(rt: &impl Print, alpha: u8) -> io::Result<()> {
-    let tables = buffers::tables();
+    let tables = filled::<u8, TABLES_LEN>(0);
     let mut pictures = pixels();
     let mut out = pixels();
-    let global = GLOBAL + alpha as u32;
+    let global = GLOBAL + u32::from(alpha);
     print::letter(rt, b'M')?;
-    print::column(rt, alpha as u32, 2)?;
+    print::column(rt, u32::from(alpha), 2)?;
     let own = painted(0, alpha, false, &tables, &mut pictures, &mut out);
     print::column(rt, own, 8)?;
     let layers = painted(global, 255 - alpha, false, &tables, &mut pictures, &mut out);

@@ -1,11 +1,10 @@
 // The fades of one length at their edges: 6 values to 6 targets, at frames around their begin,
 // middle and end, where the difference of frames turns over, and far away; from 6 starts.
-ghost use Rattle.display.specs.Reached.{Arranged};
-
+use crate::buffers::TABLES_LEN;
 use crate::checksum::{NONE, with_byte};
-use crate::screen::{GLOBAL, covered_screen, started, written};
-use crate::{buffers, print};
-use display::Display;
+use crate::print;
+use crate::screen::{GLOBAL, Lent, Screen};
+use numbers::filled;
 use std::io;
 
 const CASES: usize = 6 * 6 * 3 * 16 * 6;
@@ -37,44 +36,44 @@ struct Case {
 fn place_of(part: usize, length: u16) -> u32 {
     match part {
         0 => 0,
-        1 => (length / 2) as u32,
-        _ => length as u32,
+        1 => u32::from(length / 2),
+        _ => u32::from(length),
     }
 }
 
 fn case_of(i: usize, length: u16) -> Case {
     let place = place_of(i / 36 % 3, length);
-    let since = std::num::wrapping_add_u32(place, AWAY[i / 108 % 16]);
+    let since = place.wrapping_add(AWAY[i / 108 % 16]);
     let start = STARTS[i / 1728 % 6];
     Case {
         value: VALUES[i % 6],
         target: VALUES[i / 6 % 6],
         start: start,
-        frame: std::num::wrapping_add_u32(start, since),
+        frame: start.wrapping_add(since),
     }
 }
 
-// The display with the case's fade, started. Its frame number is then 1, so the fade's start lies
+// The case's fade on a screen, started. Its frame number is then 1, so the fade's start lies
 // as far from there as the case's lies from its frame.
-fn faded(state: Display, case: Case, length: u16) -> Display
-    requires { Arranged state }
-    ensures { Arranged result }
-{
-    let since = std::num::wrapping_sub_u32(case.frame, case.start);
-    let a = written(state, 5, GLOBAL + case.value as u32);
-    let b = written(a, 8, std::num::wrapping_sub_u32(1, since));
-    let c = written(b, 9, (case.target as u32) * 65536 + length as u32);
-    started(c)
+fn start_fade(screen: &mut Screen, case: Case, length: u16) {
+    let since = case.frame.wrapping_sub(case.start);
+    screen.write(5, GLOBAL + u32::from(case.value));
+    screen.write(8, 1u32.wrapping_sub(since));
+    screen.write(9, u32::from(case.target) * 65536 + u32::from(length));
+    screen.start();
 }
 
 // White over black gives the alpha itself.
-fn painted(state: Display, case: Case, length: u16, tables: &[u8]) -> u8
-    requires { Arranged state }
-{
+fn painted(mut screen: Screen, case: Case, length: u16, tables: &[u8]) -> u8 {
     let none: [f32; 0] = [];
     let mut out = [0u8; 4];
-    let s = faded(state, case, length);
-    s.paint(0, 8, tables, b"\xff\xff\xff\x00", &none, &mut out);
+    start_fade(&mut screen, case, length);
+    let lent = Lent {
+        tables,
+        pictures: b"\xff\xff\xff\x00",
+        floats: &none,
+    };
+    screen.paint(0, 8, lent, &mut out);
     out[0]
 }
 
@@ -89,18 +88,18 @@ fn called_sum(length: u16) -> u32 {
 
 fn painted_sum(length: u16, tables: &[u8]) -> u32 {
     let mut sum = NONE;
-    let state = covered_screen(ONE_PIXEL);
+    let screen = Screen::covered(ONE_PIXEL);
     for i in 0..PAINTED {
-        sum = with_byte(sum, painted(state, case_of(i, length), length, tables));
+        sum = with_byte(sum, painted(screen, case_of(i, length), length, tables));
     }
     sum
 }
 
 // Two checksums: by `mix::fade`, and as painted.
 pub fn show(rt: &impl Print, length: u16) -> io::Result<()> {
-    let tables = buffers::tables();
+    let tables = filled::<u8, TABLES_LEN>(0);
     print::letter(rt, b'E')?;
-    print::column(rt, length as u32, 4)?;
+    print::column(rt, u32::from(length), 4)?;
     print::column(rt, called_sum(length), 8)?;
     print::column(rt, painted_sum(length, &tables), 8)?;
     print::end_line(rt)

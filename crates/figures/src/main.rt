@@ -18,9 +18,5 @@ mod stage;
 
 fn main(rt: HostRuntime) -> io::Result<()> {
     bench::show(&rt)?;
-    let mut tables = buffers::roomy_tables();
-    let mut pictures = buffers::pixels();
-    let mut floats = buffers::float_pixels();
-    let mut out = buffers::pixels();
-    script::run(&rt, &mut tables, &mut pictures, &mut floats, &mut out)
+    script::run(&rt)
 }

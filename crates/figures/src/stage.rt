@@ -13,32 +13,30 @@
 //     B  paint the band a..b          R  paint a whole frame
 //     Y  paint line a into the output from byte b on, so many bytes as are lent
 //     H  make each painting (B, R, Y) a times more (up to 1,023), until the next H or N
-ghost use Rattle.display.specs.Reached.{Arranged};
-
-use crate::buffers;
-use crate::record::Record;
-use display::{Display, Ran, Told};
+use crate::buffers::{self, Buffers, count};
+use crate::record::{Action, Record};
+use crate::screen::{Lent, Screen};
 use tables::tables_len;
 
 // How many bytes are lent, of the floats how many numbers, counted from a buffer's front; more than it has
 // is all of it.
 #[derive(Clone, Copy)]
-pub struct Lent {
-    pub tables: u32,
-    pub pictures: u32,
-    pub floats: u32,
-    pub out: u32,
+struct Lengths {
+    tables: u32,
+    pictures: u32,
+    floats: u32,
+    out: u32,
 }
 
 // After a record: what its call answered, and how many items that did if it was a run.
 #[derive(Clone, Copy)]
 pub struct Stage {
-    pub state: Display,
+    pub screen: Screen,
     pub answer: u8,
     pub done: usize,
-    pub lent: Lent,
+    lengths: Lengths,
     // How many times more a painting is made.
-    pub more: u32,
+    more: u32,
 }
 
 // The whole tables of a display that is made with so many bits a glyph pixel.
@@ -49,359 +47,133 @@ fn whole_tables(bits: u32) -> u32 {
     (tables_len(1) % 4294967296) as u32
 }
 
-// A fresh display with whole tables and nothing else lent, and what making it answered.
-pub fn fresh(bits: u32, floats: bool) -> Stage
-    ensures { Arranged result.state }
-{
-    let told = Display::new(bits, floats);
-    let state = told.state;
-    Stage {
-        state: state,
-        answer: told.answer,
-        done: 0,
-        lent: Lent {
-            tables: whole_tables(bits),
-            pictures: 0,
-            floats: 0,
-            out: 0,
-        },
-        more: 0,
-    }
-}
-
-fn put(state: Display, tables: &mut [u8], lent: Lent, byte: u8) -> Told
-    requires { Arranged state }
-    ensures { Arranged result.state }
-{
-    let n = buffers::count_bytes(lent.tables, tables);
-    state.put(&mut tables[..n], byte)
-}
-
-// A byte put once and then up to 1,023 times more; the last answer.
-fn put_often(state: Display, tables: &mut [u8], lent: Lent, byte: u8, more: u32) -> Told
-    requires { Arranged state }
-    ensures { Arranged result.state }
-{
-    let mut told = put(state, tables, lent, byte);
-    let mut left = more % 1024;
-    while left > 0 {
-        told = put(told.state, tables, lent, byte);
-        left -= 1;
-    }
-    told
-}
-
-// A run of puts, of so many of the bytes.
-fn put_run(state: Display, tables: &mut [u8], lent: Lent, bytes: &[u8], length: u32) -> Ran
-    requires { Arranged state }
-    ensures { Arranged result.state }
-{
-    let t = buffers::count_bytes(lent.tables, tables);
-    let n = buffers::count_bytes(length, bytes);
-    state.put_run(&mut tables[..t], &bytes[..n])
-}
-
-// A run of writes, of so many of the bytes.
-fn write_run(state: Display, bytes: &[u8], length: u32) -> Ran
-    requires { Arranged state }
-    ensures { Arranged result.state }
-{
-    let n = buffers::count_bytes(length, bytes);
-    state.write_run(&bytes[..n])
-}
-
-fn fill(state: Display, out: &mut [u8], lent: Lent) -> Told
-    requires { Arranged state }
-    ensures { Arranged result.state }
-{
-    let n = buffers::count_bytes(lent.out, out);
-    state.fill(&mut out[..n])
-}
-
-// A band painted into so many bytes of the output.
-fn paint(
-    state: Display,
-    low: u32,
-    high: u32,
-    tables: &[u8],
-    pictures: &[u8],
-    floats: &[f32],
-    out: &mut [u8],
-    length: u32,
-) -> Told
-    requires { Arranged state }
-    ensures { Arranged result.state }
-{
-    let n = buffers::count_bytes(length, out);
-    state.paint(low, high, tables, pictures, floats, &mut out[..n])
-}
-
-// A whole frame, likewise.
-fn frame(
-    state: Display,
-    tables: &[u8],
-    pictures: &[u8],
-    floats: &[f32],
-    out: &mut [u8],
-    length: u32,
-) -> Told
-    requires { Arranged state }
-    ensures { Arranged result.state }
-{
-    let n = buffers::count_bytes(length, out);
-    state.frame(tables, pictures, floats, &mut out[..n])
-}
-
-// A line, likewise.
-fn line(
-    state: Display,
-    y: u32,
-    tables: &[u8],
-    pictures: &[u8],
-    floats: &[f32],
-    out: &mut [u8],
-    length: u32,
-) -> Told
-    requires { Arranged state }
-    ensures { Arranged result.state }
-{
-    let n = buffers::count_bytes(length, out);
-    state.line(y, tables, pictures, floats, &mut out[..n])
-}
-
-// The painting that a record asks for.
-fn paint_once(
-    state: Display,
-    r: Record,
-    tables: &[u8],
-    pictures: &[u8],
-    floats: &[f32],
-    out: &mut [u8],
-    length: u32,
-) -> Told
-    requires { Arranged state }
-    ensures { Arranged result.state }
-{
-    let letter = r.letter;
-    match letter {
-        b'B' => paint(state, r.a, r.b, tables, pictures, floats, out, length),
-        b'R' => frame(state, tables, pictures, floats, out, length),
-        _ => {
-            let at = buffers::count_bytes(r.b, out);
-            line(state, r.a, tables, pictures, floats, &mut out[at..], length)
-        }
-    }
-}
-
-// A painting made once and then so many times more; the last answer.
-fn paint_often(
-    state: Display,
-    r: Record,
-    tables: &[u8],
-    pictures: &[u8],
-    floats: &[f32],
-    out: &mut [u8],
-    length: u32,
-    more: u32,
-) -> Told
-    requires { Arranged state }
-    ensures { Arranged result.state }
-{
-    let mut told = paint_once(state, r, tables, pictures, floats, out, length);
-    let mut left = more;
-    while left > 0 {
-        told = paint_once(told.state, r, tables, pictures, floats, out, length);
-        left -= 1;
-    }
-    told
-}
-
-// The paintings of a record, with what is lent.
-fn paint_lent(
-    state: Display,
-    lent: Lent,
-    more: u32,
-    r: Record,
-    tables: &[u8],
-    pictures: &[u8],
-    floats: &[f32],
-    out: &mut [u8],
-) -> Told
-    requires { Arranged state }
-    ensures { Arranged result.state }
-{
-    let t = buffers::count_bytes(lent.tables, tables);
-    let p = buffers::count_bytes(lent.pictures, pictures);
-    let f = buffers::count_floats(lent.floats, floats);
-    paint_often(
-        state,
-        r,
-        &tables[..t],
-        &pictures[..p],
-        &floats[..f],
-        out,
-        lent.out,
-        more,
-    )
-}
-
-// How many times more a painting is made after a record.
-fn more_paintings(more: u32, r: Record) -> u32 {
-    if r.letter == b'H' {
-        return r.a % 1024;
-    }
-    more
-}
-
-// What is lent after a record.
-fn lend(mut lent: Lent, r: Record) -> Lent {
-    let buffer = r.a;
-    if r.letter != b'L' {
-        return lent;
-    }
-    match buffer {
-        0 => lent.tables = r.b,
-        1 => lent.pictures = r.b,
-        3 => lent.floats = r.b,
-        _ => lent.out = r.b,
-    }
-    lent
-}
-
 // The records that change what the buffers hold.
-fn change(r: Record, tables: &mut [u8], pictures: &mut [u8], floats: &mut [f32], out: &mut [u8]) {
-    let letter = r.letter;
-    match letter {
-        b'K' => buffers::fill(tables, r.a, r.b, false),
-        b'I' => buffers::fill(pictures, r.a, r.b, true),
-        b'A' => buffers::fill_floats(floats, r.a, r.b),
-        b'D' => buffers::fill(out, r.a, r.b, false),
-        b'Q' => buffers::set_word(tables, r.a, r.b),
-        b'J' => buffers::set_word(pictures, r.a, r.b),
-        b'Z' => buffers::set_float(floats, r.a, r.b),
+fn change(action: Action, r: Record, buffers: &mut Buffers) {
+    match action {
+        Action::FillTables => buffers::fill(&mut buffers.tables, r.a, r.b, false),
+        Action::FillPictures => buffers::fill(&mut buffers.pictures, r.a, r.b, true),
+        Action::FillFloats => buffers::fill_floats(&mut buffers.floats, r.a, r.b),
+        Action::FillOutput => buffers::fill(&mut buffers.out, r.a, r.b, false),
+        Action::StoreInTables => buffers::set_word(&mut buffers.tables, r.a, r.b),
+        Action::StoreInPictures => buffers::set_word(&mut buffers.pictures, r.a, r.b),
+        Action::StoreInFloats => buffers::set_float(&mut buffers.floats, r.a, r.b),
         _ => {}
     }
 }
 
-// The records that make one call of the display; for others the state as it is, and 0.
-fn call(
-    state: Display,
-    lent: Lent,
-    more: u32,
-    r: Record,
-    tables: &mut [u8],
-    pictures: &[u8],
-    floats: &[f32],
-    out: &mut [u8],
-) -> Told
-    requires { Arranged state }
-    ensures { Arranged result.state }
-{
-    let letter = r.letter;
-    match letter {
-        b'W' => state.write(r.a, r.b),
-        b'S' => state.select(r.a),
-        b'T' => state.toggle(r.a),
-        b'G' => state.start(),
-        b'P' => put_often(state, tables, lent, (r.a % 256) as u8, r.b),
-        b'F' => fill(state, out, lent),
-        b'B' | b'R' | b'Y' => paint_lent(state, lent, more, r, tables, pictures, floats, out),
-        _ => Told {
-            state: state,
-            answer: 0,
-        },
-    }
-}
-
-// The records that make a run; what others call counts nothing.
-fn run(
-    state: Display,
-    lent: Lent,
-    more: u32,
-    r: Record,
-    tables: &mut [u8],
-    pictures: &[u8],
-    floats: &[f32],
-    out: &mut [u8],
-) -> Ran
-    requires { Arranged state }
-    ensures { Arranged result.state }
-{
-    let letter = r.letter;
-    let at = buffers::count_bytes(r.a, pictures);
-    match letter {
-        b'U' => put_run(state, tables, lent, &pictures[at..], r.b),
-        b'X' => write_run(state, &pictures[at..], r.b),
-        _ => {
-            let told = call(state, lent, more, r, tables, pictures, floats, out);
-            let after = told.state;
-            Ran {
-                state: after,
-                answer: told.answer,
-                done: 0,
-            }
+impl Stage {
+    // A fresh display with whole tables and nothing else lent, and what making it answered.
+    pub fn new(bits: u32, floats: bool) -> Stage {
+        let (screen, answer) = Screen::new(bits, floats);
+        Stage {
+            screen,
+            answer,
+            done: 0,
+            lengths: Lengths {
+                tables: whole_tables(bits),
+                pictures: 0,
+                floats: 0,
+                out: 0,
+            },
+            more: 0,
         }
     }
-}
 
-// A fresh display, and zeros in every buffer.
-fn renew(
-    bits: u32,
-    lets_floats: bool,
-    tables: &mut [u8],
-    pictures: &mut [u8],
-    floats: &mut [f32],
-    out: &mut [u8],
-) -> Stage
-    ensures { Arranged result.state }
-{
-    buffers::fill(tables, 0, 0, false);
-    buffers::fill(pictures, 0, 0, false);
-    buffers::clear_floats(floats);
-    buffers::fill(out, 0, 0, false);
-    fresh(bits, lets_floats)
-}
-
-// The stage after what a record calls, with what is lent by then.
-fn perform(
-    s: Stage,
-    r: Record,
-    tables: &mut [u8],
-    pictures: &[u8],
-    floats: &[f32],
-    out: &mut [u8],
-) -> Stage
-    requires { Arranged s.state }
-    ensures { Arranged result.state }
-{
-    let lent = lend(s.lent, r);
-    let more = more_paintings(s.more, r);
-    let ran = run(s.state, lent, more, r, tables, pictures, floats, out);
-    let state = ran.state;
-    Stage {
-        state: state,
-        answer: ran.answer,
-        done: ran.done,
-        lent: lent,
-        more: more,
+    fn lend(&mut self, buffer: u32, length: u32) {
+        match buffer {
+            0 => self.lengths.tables = length,
+            1 => self.lengths.pictures = length,
+            3 => self.lengths.floats = length,
+            _ => self.lengths.out = length,
+        }
     }
-}
 
-// The stage after a record. A letter that means nothing changes nothing.
-pub fn play(
-    s: Stage,
-    r: Record,
-    tables: &mut [u8],
-    pictures: &mut [u8],
-    floats: &mut [f32],
-    out: &mut [u8],
-) -> Stage
-    requires { Arranged s.state }
-    ensures { Arranged result.state }
-{
-    if r.letter == b'N' {
-        return renew(r.a, r.b != 0, tables, pictures, floats, out);
+    // A byte put once and then up to 1,023 times more; the last answer.
+    fn put(&mut self, r: Record, tables: &mut [u8]) -> u8 {
+        let n = count(self.lengths.tables, tables);
+        let byte = (r.a % 256) as u8;
+        let mut answer = 0;
+        for _ in 0..=r.b % 1024 {
+            answer = self.screen.put(&mut tables[..n], byte);
+        }
+        answer
     }
-    change(r, tables, pictures, floats, out);
-    perform(s, r, tables, pictures, floats, out)
+
+    // The painting that a record asks for.
+    fn paint_once(&mut self, action: Action, r: Record, lent: Lent, out: &mut [u8]) -> u8 {
+        let at = count(if action == Action::Line { r.b } else { 0 }, out);
+        let part = &mut out[at..];
+        let n = count(self.lengths.out, part);
+        let lent_out = &mut part[..n];
+        match action {
+            Action::Band => self.screen.paint(r.a, r.b, lent, lent_out),
+            Action::Frame => self.screen.frame(lent, lent_out),
+            _ => self.screen.line(r.a, lent, lent_out),
+        }
+    }
+
+    // A painting made once and then so many times more; the last answer.
+    fn paint(&mut self, action: Action, r: Record, buffers: &mut Buffers) -> u8 {
+        let t = count(self.lengths.tables, &buffers.tables);
+        let p = count(self.lengths.pictures, &buffers.pictures);
+        let f = count(self.lengths.floats, &buffers.floats);
+        let lent = Lent {
+            tables: &buffers.tables[..t],
+            pictures: &buffers.pictures[..p],
+            floats: &buffers.floats[..f],
+        };
+        let mut answer = self.paint_once(action, r, lent, &mut buffers.out);
+        for _ in 0..self.more {
+            answer = self.paint_once(action, r, lent, &mut buffers.out);
+        }
+        answer
+    }
+
+    // A run of puts or of writes: its answer, and how many of its items were done.
+    fn run(&mut self, action: Action, r: Record, buffers: &mut Buffers) -> (u8, usize) {
+        let pictures = &buffers.pictures;
+        let rest = &pictures[count(r.a, pictures)..];
+        let run = &rest[..count(r.b, rest)];
+        if action == Action::WriteRun {
+            return self.screen.write_run(run);
+        }
+        let tables = &mut buffers.tables;
+        let t = count(self.lengths.tables, tables);
+        self.screen.put_run(&mut tables[..t], run)
+    }
+
+    fn fill(&mut self, out: &mut [u8]) -> u8 {
+        let n = count(self.lengths.out, out);
+        self.screen.fill(&mut out[..n])
+    }
+
+    // What a record asks for is done; of one that makes no call the answer is 0. A letter that means nothing
+    // changes nothing.
+    pub fn play(&mut self, r: Record, buffers: &mut Buffers) {
+        let action = r.action();
+        change(action, r, buffers);
+        self.answer = 0;
+        self.done = 0;
+        match action {
+            Action::Renew => {
+                buffers.clear();
+                *self = Stage::new(r.a, r.b != 0);
+            }
+            Action::Lend => self.lend(r.a, r.b),
+            Action::Repeat => self.more = r.a % 1024,
+            Action::Write => self.answer = self.screen.write(r.a, r.b),
+            Action::Select => self.answer = self.screen.select(r.a),
+            Action::Toggle => self.answer = self.screen.toggle(r.a),
+            Action::Start => self.answer = self.screen.start(),
+            Action::Put => self.answer = self.put(r, &mut buffers.tables),
+            Action::Fill => self.answer = self.fill(&mut buffers.out),
+            Action::PutRun | Action::WriteRun => {
+                (self.answer, self.done) = self.run(action, r, buffers);
+            }
+            Action::Band | Action::Frame | Action::Line => {
+                self.answer = self.paint(action, r, buffers);
+            }
+            _ => {}
+        }
+    }
 }

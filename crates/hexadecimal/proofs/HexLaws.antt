@@ -3,16 +3,14 @@
 use Prim.Native.Nat.{ℕ, suc, ◌+◌, ◌*◌, ◌/◌, ◌%◌, ◌<◌, ◌≤◌}
 use mathlib.Core.Path.{◌≡◌, refl, sym, ap, ◌∙◌}
 use mathlib.Core.Bool.{Bool, true, false}
-use mathlib.Core.Logic.{⊎_elim}
 use mathlib.Core.List.{List, [], ◌∷◌, ◌++◌, append_assoc, append-nil}
 use native.Mathlib.Omega.{arith}
 use native.Mathlib.Numerals.{add-one}
-use borrow.Author.Tests.{lt-ltb, le-ltb, eq-eqb, ne_eqb, eqb-true}
+use borrow.Author.Tests.{lt-ltb, le-ltb}
 use lib.ListN.{length, get_or, set, take, drop, drop_of_length-le, length-append}
 use lib.Seq.{take_all, drop-cons, take-suc, take-suc-set, length-take-le}
-use lib.Dec.{eqb}
+use Rattle.std.specs.Prelude.{◌≢◌}
 use Rattle.lists.specs.Over.{over}
-use Rattle.lists.proofs.Choice.{split}
 use Rattle.lists.proofs.Over.{over-set}
 use Rattle.hexadecimal.specs.Hex.{value_of, is_hex, bytes_in, digit_of, digits_of}
 
@@ -35,47 +33,44 @@ single t i h g =
     drop-cons t (2 * i) 0 h ∙ ap (λ (l : List ℕ). get_or t (2 * i) 0 ∷ l) (drop_of_length-le t q)
 
 module _ (t : List ℕ) (i : ℕ) (w : Bool) where
-  pub is_hex-upper : (x : ℕ) → 2 * i + 1 < length t → is_hex (drop (2 * i) t) ≡ w → x ≡ value_of (get_or t (2 * i) 0)
-      → 15 < x → false ≡ w
+  pub is_hex-upper : 2 * i + 1 < length t → is_hex (drop (2 * i) t) ≡ w → value_of (get_or t (2 * i) 0) ≡ 16
+      → w ≡ false
   unfolding is_hex
-  is_hex-upper x h e q g =
+  is_hex-upper h e q =
       let k : 16 ≤ value_of (get_or t (2 * i) 0) = omega arith in
-      sym (rw (pair t i h) (simp (le-ltb (value_of (get_or t (2 * i) 0)) 16 k))) ∙ e
+      sym e ∙ rw (pair t i h) (simp (le-ltb (value_of (get_or t (2 * i) 0)) 16 k))
 
-  pub is_hex-lower : (x y : ℕ) → 2 * i + 1 < length t → is_hex (drop (2 * i) t) ≡ w → x ≡ value_of (get_or t (2 * i) 0)
-      → x ≤ 15
-      → y ≡ value_of (get_or t (2 * i + 1) 0) → 15 < y → false ≡ w
+  pub is_hex-lower : (x : ℕ) → 2 * i + 1 < length t → is_hex (drop (2 * i) t) ≡ w
+      → (x ≡ value_of (get_or t (2 * i) 0)) × (x < 16) → value_of (get_or t (2 * i + 1) 0) ≡ 16 → w ≡ false
   unfolding is_hex
-  is_hex-lower x y h e q g r f =
+  is_hex-lower x h e q r =
       let k : value_of (get_or t (2 * i) 0) < 16 = omega arith in
       let m : 16 ≤ value_of (get_or t (2 * i + 1) 0) = omega arith in
-      sym (rw (pair t i h)
-      (simp (lt-ltb (value_of (get_or t (2 * i) 0)) 16 k, le-ltb (value_of (get_or t (2 * i + 1) 0)) 16 m)))
-      ∙ e
+      sym e ∙ rw (pair t i h)
+      (simp (lt-ltb (value_of (get_or t (2 * i) 0)) 16 k, le-ltb (value_of (get_or t (2 * i + 1) 0)) 16 m))
 
-  pub is_hex-turn : (x y : ℕ) → 2 * i + 1 < length t → is_hex (drop (2 * i) t) ≡ w → x ≡ value_of (get_or t (2 * i) 0)
-      → x ≤ 15
-      → y ≡ value_of (get_or t (2 * i + 1) 0) → y ≤ 15 → is_hex (drop (2 * (i + 1)) t) ≡ w
+  pub is_hex-turn : (x y : ℕ) → 2 * i + 1 < length t → is_hex (drop (2 * i) t) ≡ w
+      → (x ≡ value_of (get_or t (2 * i) 0)) × (x < 16) → (y ≡ value_of (get_or t (2 * i + 1) 0)) × (y < 16)
+      → is_hex (drop (2 * (i + 1)) t) ≡ w
   unfolding is_hex
-  is_hex-turn x y h e q g r f =
+  is_hex-turn x y h e q r =
       let k : value_of (get_or t (2 * i) 0) < 16 = omega arith in
       let m : value_of (get_or t (2 * i + 1) 0) < 16 = omega arith in
       sym (rw (pair t i h)
       (simp (lt-ltb (value_of (get_or t (2 * i) 0)) 16 k, lt-ltb (value_of (get_or t (2 * i + 1) 0)) 16 m)))
       ∙ e
 
-  -- the text ends here, or one digit is left
-  pub is_hex-end : 2 * i ≤ length t → length t ≤ 2 * i + 1 → is_hex (drop (2 * i) t) ≡ w → eqb (length t) (2 * i) ≡ w
+  -- one digit is left
+  pub is_hex-odd : i ≡ length t / 2 → length t % 2 ≡ 1 → is_hex (drop (2 * i) t) ≡ w → w ≡ false
   unfolding is_hex
-  is_hex-end h g e =
-      ⊎_elim
-      (λ (b : length t < 2 * i + 1).
+  is_hex-odd q h e = sym e ∙ rw (single t i (omega arith) (omega arith)) refl
+
+  -- the text ends here
+  pub is_hex-even : i ≡ length t / 2 → length t % 2 ≢ 1 → is_hex (drop (2 * i) t) ≡ w → w ≡ true
+  unfolding is_hex
+  is_hex-even q h e =
       let z : length t ≤ 2 * i = omega arith in
-      eq-eqb (length t) (2 * i) (omega arith) ∙ sym (rw (drop_of_length-le t z) refl) ∙ e)
-      (λ (b : 2 * i + 1 ≤ length t).
-      ne_eqb (length t) (2 * i) (λ (q : length t ≡ 2 * i). omega arith) ∙ sym (rw (single t i (omega arith) g) refl)
-      ∙ e)
-      (split (length t) (2 * i + 1))
+      sym e ∙ rw (drop_of_length-le t z) refl
 
 pub bytes_in-turn : (t s w : List ℕ) (i v x y : ℕ) → 2 * i + 1 < length t → i < length s
     → take i s ++ bytes_in (drop (2 * i) t) ≡ w
@@ -86,14 +81,12 @@ bytes_in-turn t s w i v x y h b e q r f =
     rw (ap (λ (n : ℕ). take n (set s i v)) (add-one i) ∙ take-suc-set s i v b, append_assoc, f, q, r)
     (ap (λ (l : List ℕ). take i s ++ bytes_in l) (sym (pair t i h)) ∙ e)
 
-pub bytes_in-end : (t s w : List ℕ) (i : ℕ) → eqb (length t) (2 * i) ≡ true → take i s ++ bytes_in (drop (2 * i) t) ≡ w
-    → take (length t / 2) s ≡ w
+pub bytes_in-end : (t s w : List ℕ) (i : ℕ) → i ≡ length t / 2 → length t % 2 ≢ 1
+    → take i s ++ bytes_in (drop (2 * i) t) ≡ w → take (length t / 2) s ≡ w
 unfolding bytes_in
-bytes_in-end t s w i g e =
-    let k : length t ≡ 2 * i = eqb-true (length t) (2 * i) g in
+bytes_in-end t s w i q g e =
     let h : length t ≤ 2 * i = omega arith in
-    let q : length t / 2 ≡ i = omega arith in
-    rw q (sym (append-nil (take i s)) ∙ ap (λ (l : List ℕ). take i s ++ bytes_in l) (sym (drop_of_length-le t h)) ∙ e)
+    rw (sym q) (sym (append-nil (take i s)) ∙ ap (λ (l : List ℕ). take i s ++ bytes_in l) (sym (drop_of_length-le t h)) ∙ e)
 
 -- ---- printing
 

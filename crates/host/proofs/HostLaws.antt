@@ -18,8 +18,7 @@ use Rattle.words.specs.Check.{reserved_at, kind_at, screen_of, check_of}
 use Rattle.words.proofs.CheckLaws.{check-let}
 use Rattle.words.proofs.PictureLaws.{no_floats}
 use Rattle.tables.specs.Geometry.{tables_len}
-use Rattle.paint.specs.declared.Painted.{Painted}
-use Rattle.paint.specs.Painted.{answered}
+use Rattle.paint.specs.Painted.{Painted, answered}
 use Rattle.frames.specs.Frame.{size_refusal, output_refusal, tables_refusal, pictures_refusal, paint_refusal, refusal_of}
 use Rattle.frames.specs.Frame.{frame_after}
 use Rattle.words.specs.Image.{words_of}

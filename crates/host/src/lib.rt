@@ -2,10 +2,12 @@
 #![tactic(auto)]
 
 ghost use Rattle.std.specs.Prelude.{◌≡◌};
+ghost use Rattle.answers.specs.Refusals.{answer_of};
 ghost use Rattle.host.specs.Host.{profile_for, host_answer, host_output};
 
-use answers::{DONE, IMAGE_LENGTH};
+use answers::{Refusal, answer_of};
 use order::layout_of;
+use paint::scene::Scene;
 use profiles::Profile;
 use starts::refusal_of;
 use tables::tables_len;
@@ -20,6 +22,40 @@ fn profile_for(long: usize) -> Profile
         soft,
         floats: false,
     }
+}
+
+// The frame, painted; or why it is refused.
+fn painted(
+    image: &[u8],
+    frame: u32,
+    tables: &[u8],
+    pictures: &[u8],
+    output: &mut [u8],
+) -> Result<(), Refusal>
+    ensures answer { answer_of result
+        ≡ host_answer image.now frame tables.now pictures.now output.old }
+    ensures output { output.new
+        ≡ host_output image.now frame tables.now pictures.now output.old }
+{
+    if image.len() != IMAGE_LEN {
+        return Err(Refusal::ImageLength);
+    }
+    let words = words_at(image, 0);
+    refusal_of(false, &words)?;
+    let profile = profile_for(tables.len());
+    let layout = layout_of(&words);
+    let floats: [f32; 0] = [];
+    let scene = Scene {
+        profile,
+        words: &words,
+        layout,
+        frame,
+        tables,
+        pictures,
+        floats: &floats,
+    };
+    paint::frame(&scene, 0, output)?;
+    Ok(())
 }
 
 // Paints a whole frame of the image's words at a frame number. Answers 0, or the first of 16, 7, 8, 9
@@ -37,19 +73,5 @@ pub fn spoonwing_frame(
     ensures output { output.new
         ≡ host_output image.now frame tables.now pictures.now output.old }
 {
-    if image.len() != IMAGE_LEN {
-        return IMAGE_LENGTH as u32;
-    }
-    let words = words_at(image, 0);
-    let refusal = refusal_of(false, &words);
-    if refusal != DONE {
-        return refusal as u32;
-    }
-    let profile = profile_for(tables.len());
-    let layout = layout_of(&words);
-    let none: [f32; 0] = [];
-    let painted = paint::frame(
-        profile, &words, layout, frame, 0, tables, pictures, &none, output,
-    );
-    painted.answer as u32
+    u32::from(answer_of(painted(image, frame, tables, pictures, output)))
 }

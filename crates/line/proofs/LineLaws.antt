@@ -1,13 +1,16 @@
 -- A line from its parts: start, frame and reply, each as the code leaves it. Assumes nothing.
-use Prim.Native.Nat.{ℕ, zero, suc, ◌+◌, ◌-◌, ◌*◌, ◌/◌, ◌%◌, ◌^◌, ◌<◌, ◌≤◌}
-use mathlib.Core.Path.{◌≡◌, refl, sym, ap, ◌∙◌}
-use mathlib.Core.Bool.{Bool, true, false}
+use Prim.Native.Nat.{ℕ, zero, suc, ◌+◌, ◌-◌, ◌*◌, ◌<◌, ◌≤◌}
+use mathlib.Core.Path.{◌≡◌, refl, ap, ◌∙◌}
+use mathlib.Core.Bool.{true, false}
 use mathlib.Core.List.{List, [], ◌∷◌, ◌++◌}
 use native.Mathlib.Omega.{arith}
-use native.Mathlib.Nat.{le_trans, mul-le-mul_left, mul-le-mul_right, le_of_suc-le-suc, not-suc-le-zero}
-use lib.ListN.{length, take, drop, length-drop, length-append, length-take, length-replicate}
+use native.Mathlib.Nat.{le_of_suc-le-suc, not-suc-le-zero}
+use lib.ListN.{length, get_or, take, drop, length-drop, length-append, length-take, length-replicate}
 use lib.Seq.{length-take-le, take_all, take_at, drop_at, take-append-add}
 use borrow.Author.Tests.{eq-eqb, ne_eqb, le-leb, lt-leb}
+use Rattle.std.specs.Prelude.{Some, None}
+use Rattle.std.specs.Int.{to_be_bytes}
+use Rattle.std.proofs.Common.{w16, w32}
 use Rattle.lists.specs.Over.{over}
 use Rattle.answers.specs.Answers.{done}
 use Rattle.mix.specs.Pixel.{pixel_len}
@@ -23,6 +26,7 @@ use Rattle.steps.specs.declared.form.Parts.{Parts}
 use Rattle.steps.specs.Form.{picture_place, is_formed}
 use Rattle.steps.specs.Steps.{midway, run_of, steps_of}
 use Rattle.steps.specs.Engine.Parts.{parts_of}
+use Rattle.steps.proofs.FormLaws.{some-parts, no-parts}
 use Rattle.line.specs.declared.Replied.{Replied}
 use Rattle.line.specs.declared.Printed.{Printed}
 use Rattle.line.specs.Sizes.{most_digits, most_lent, head_len, most_reply, most_printed}
@@ -42,16 +46,6 @@ unfolding started_of
 started-fresh t r z e = simp (eq-eqb t.answer done z) e
 
 -- ---- what the frame is lent
-
--- a screen's pixels are few
-pixels : (w h : ℕ) → w ≤ 65535 → h ≤ 65535 → w * h ≤ 65535 * 65535
-pixels w h p q = le_trans (mul-le-mul_left w q) (mul-le-mul_right 65535 p)
-
-pub area : {w h : ℕ} → w ≤ 65535 → h ≤ 65535 → w * h < 2 ^ 64
-area {w} {h} p q = omega (arith, pixels w h p q)
-
-pub area-bytes : {w h : ℕ} → w ≤ 65535 → h ≤ 65535 → pixel_len * (w * h) < 2 ^ 64
-area-bytes {w} {h} p q = omega (arith, pixels w h p q)
 
 module _ {w h w' h' : ℕ} (ew : w ≡ w') (eh : h ≡ h') where
   pub lent_for-all : pixel_len * (w * h) ≤ most_lent → pixel_len * (w * h) ≡ lent_for w' h'
@@ -81,13 +75,13 @@ reply-long e = ap length e ∙ length-zeros most_reply
 
 -- ---- the reply
 
-pub head-is : (d : Display) (e w h : ℕ) (o u : List ℕ) → e ≡ d.errors → w ≡ width_of d.active
-    → h ≡ height_of d.active
-    → u ≡ over (0 ∷ e / 16777216 % 256 ∷ e / 65536 % 256 ∷ e / 256 % 256 ∷ e % 256
-    ∷ w / 256 % 256 ∷ w % 256 ∷ h / 256 % 256 ∷ h % 256 ∷ []) o
+-- e, w and h are the library's bytes of what the head has
+pub head-is : (d : Display) (x y z : ℕ) (e w h o u : List ℕ) → x ≡ d.errors → y ≡ width_of d.active
+    → z ≡ height_of d.active → e ≡ to_be_bytes w32 x → w ≡ to_be_bytes w16 y → h ≡ to_be_bytes w16 z
+    → u ≡ over (0 ∷ get_or e 0 0 ∷ get_or e 1 0 ∷ get_or e 2 0 ∷ get_or e 3 0
+    ∷ get_or w 0 0 ∷ get_or w 1 0 ∷ get_or h 0 0 ∷ get_or h 1 0 ∷ []) o
     → u ≡ over (done ∷ head_of d) o
-unfolding over
-head-is d e w h o u ee ew eh q = q ∙ rw (ee, ew, eh) refl
+head-is d x y z e w h o u ex ey ez ee ew eh q = q ∙ rw (ee, ew, eh, ex, ey, ez) refl
 
 reply_of-refused : (f : Told) (bytes : List ℕ) → (f.answer ≡ done → ⊥) → f.answer ∷ [] ≡ reply_of f bytes
 unfolding reply_of
@@ -194,23 +188,22 @@ bad-is : (d : Display) (t u : List ℕ) (r : Replied) → Refused d bad_form r u
 bad-is d t u r q =
     record { state = q.0; tables = refl; reply = ap (λ (n : ℕ). take n u) q.1 ∙ q.2; fits = omega (arith, q.1) }
 
-module _ (d : Display) (t b : List ℕ) (p : Parts) (e : p ≡ parts_of b) where
-  pub work-bad : (r : Replied) (u : List ℕ) → p.good ≡ false → Refused d bad_form r u → Leaves (done_of d t b) r t u
+module _ (d : Display) (t b : List ℕ) where
+  pub work-bad : (r : Replied) (u : List ℕ) → None ≡ parts_of b → Refused d bad_form r u → Leaves (done_of d t b) r t u
   unfolding done_of
-  work-bad r u h q =
-      let g : is_formed b ≡ false = sym (ap (λ (m : Parts). m.good) e) ∙ h in
-      rw g (bad-is d t u r q)
+  work-bad r u e q = let g = no-parts b e in rw g (bad-is d t u r q)
 
-  pub work-is : (v pi u : List ℕ) (w s : Told) (r : Replied) → p.good ≡ true
+  pub work-is : (p : Parts) (v pi u : List ℕ) (w s : Told) (r : Replied) → Some p ≡ parts_of b
       → midway w v ≡ run_of (midway (told d done) t) (steps_of b) → s ≡ started_of w
       → pi ≡ take (length b - (p.picture + 2)) (drop (p.picture + 2) b) → Framed s v pi r u
       → Leaves (done_of d t b) r v u
   unfolding done_of work_of closed_of
-  work-is v pi u w s r h m es ep q =
-      let g : is_formed b ≡ true = sym (ap (λ (k : Parts). k.good) e) ∙ h in
+  work-is p v pi u w s r e m es ep q =
+      let f = some-parts b p e in
+      let g : is_formed b ≡ true = f.0 in
       let y : pi ≡ drop (picture_place b + 2) b =
       ep ∙ take_all (length b - (p.picture + 2)) (drop (p.picture + 2) b) (long (p.picture + 2))
-      ∙ ap (λ (n : ℕ). drop (n + 2) b) (ap (λ (k : Parts). k.picture) e) in
+      ∙ ap (λ (n : ℕ). drop (n + 2) b) (ap (λ (k : Parts). k.picture) f.1) in
       rw (g, ← m, ← es, ← y) (record { state = q.0; tables = refl; reply = q.1; fits = q.2 })
     where
       long : (n : ℕ) → length (drop n b) ≤ length b - n
@@ -222,17 +215,15 @@ module _ (d : Display) (t x : List ℕ) where
   unfolding outcome_of
   text-long r u h q = rw (lt-leb (length x) most_digits h) (bad-is d t u r q)
 
-  pub text-bad : (a : Bool) (r : Replied) (u : List ℕ) → length x ≤ most_digits → a ≡ is_hex x → a ≡ false
+  pub text-bad : (r : Replied) (u : List ℕ) → length x ≤ most_digits → is_hex x ≡ false
       → Refused d bad_form r u → Leaves (outcome_of d t x) r t u
   unfolding outcome_of
-  text-bad a r u h e z q =
-      let g : is_hex x ≡ false = sym e ∙ z in rw (le-leb (length x) most_digits h, g) (bad-is d t u r q)
+  text-bad r u h g q = rw (le-leb (length x) most_digits h, g) (bad-is d t u r q)
 
-  pub text-is : (a : Bool) (b v u : List ℕ) (r : Replied) → length x ≤ most_digits → a ≡ is_hex x → a ≡ true
+  pub text-is : (b v u : List ℕ) (r : Replied) → length x ≤ most_digits → is_hex x ≡ true
       → b ≡ bytes_in x → Leaves (done_of d t b) r v u → Leaves (outcome_of d t x) r v u
   unfolding outcome_of
-  text-is a b v u r h e z eb q =
-      let g : is_hex x ≡ true = sym e ∙ z in rw (le-leb (length x) most_digits h, g) (rw eb at q)
+  text-is b v u r h g eb q = rw (le-leb (length x) most_digits h, g) (rw eb at q)
 
 -- ---- the printed line
 

@@ -7,7 +7,7 @@ ghost use Rattle.lists.specs.Over.{over};
 ghost use Rattle.answers.specs.Answers.{done};
 ghost use Rattle.words.specs.Fields.{width_of, height_of};
 ghost use Rattle.display.specs.Reached.{Arranged};
-ghost use Rattle.line.specs.Sizes.{most_bytes, most_lent, most_reply, most_printed};
+ghost use Rattle.line.specs.Sizes.{most_lent, most_reply, most_printed};
 ghost use Rattle.line.specs.Line.{started_of, zeros, lent_for, head_of, framed_of, painted_of, reply_of, done_of};
 ghost use Rattle.line.specs.Line.{outcome_of, line_of, printed_of};
 ghost use Rattle.line.specs.Engine.Replies.{Leaves};
@@ -16,6 +16,7 @@ use crate::sizes::{HEAD_LEN, MOST_BYTES, MOST_LENT, MOST_REPLY};
 use answers::DONE;
 use display::{Display, Told};
 use mix::PIXEL_LEN;
+use numbers::filled;
 use steps::form;
 use texts::{BAD_FORM, print_line};
 
@@ -23,7 +24,7 @@ mod sizes;
 
 pub use sizes::{MOST_DIGITS, MOST_PRINTED};
 
-// The state afterwards, and how many bytes the reply has.
+// The state afterwards, and how many bytes the reply has. Not a `Printed`, whose count is of digits, two for each byte.
 #[derive(Clone, Copy)]
 pub struct Replied {
     pub state: Display,
@@ -37,33 +38,15 @@ pub struct Printed {
     pub count: usize,
 }
 
-// Room for a line's bytes. Arrays are made by functions that name their zeros, so that no proof
-// writes them out.
-fn no_bytes() -> [u8; MOST_BYTES]
-    ensures { most_bytes ≡ length result }
-{
-    [0; MOST_BYTES]
-}
-
-// Room for a reply: its head, and the most bytes that are lent.
-fn no_reply() -> [u8; MOST_REPLY]
-    ensures { (most_reply ≡ length result) × (result ≡ zeros most_reply) }
-{
-    [0; MOST_REPLY]
-}
-
 // The start, whatever was refused before it; the first refusal stays.
 fn start(t: Told) -> Told
     ensures { result ≡ started_of t }
 {
-    let first = t.answer;
-    let state = t.state;
-    let started = state.start();
-    if first != DONE {
-        let after = started.state;
+    let started = t.state.start();
+    if t.answer != DONE {
         return Told {
-            state: after,
-            answer: first,
+            state: started.state,
+            answer: t.answer,
         };
     }
     started
@@ -75,11 +58,7 @@ fn lent_len(d: Display) -> usize
 {
     let w = d.output_width() as usize;
     let h = d.output_height() as usize;
-    let n = PIXEL_LEN * (w * h);
-    if n <= MOST_LENT {
-        return n;
-    }
-    MOST_LENT
+    (PIXEL_LEN * (w * h)).min(MOST_LENT)
 }
 
 // A reply of one byte.
@@ -96,20 +75,10 @@ fn head(state: Display, reply: &mut [u8])
     requires { length reply.old ≡ most_reply }
     ensures { reply.new ≡ over (done ∷ head_of state) reply.old }
 {
-    let e = state.error_word();
-    let w = state.output_width();
-    let h = state.output_height();
-    let front = [
-        DONE,
-        (e / 16777216 % 256) as u8,
-        (e / 65536 % 256) as u8,
-        (e / 256 % 256) as u8,
-        (e % 256) as u8,
-        (w / 256 % 256) as u8,
-        (w % 256) as u8,
-        (h / 256 % 256) as u8,
-        (h % 256) as u8,
-    ];
+    let e = state.error_word().to_be_bytes();
+    let w = state.output_width().to_be_bytes();
+    let h = state.output_height().to_be_bytes();
+    let front = [DONE, e[0], e[1], e[2], e[3], w[0], w[1], h[0], h[1]];
     octets::copy(&front, reply);
 }
 
@@ -120,22 +89,19 @@ fn frame(t: Told, tables: &[u8], pictures: &[u8], reply: &mut [u8]) -> Replied
         × (take result.count reply.new ≡ reply_of (framed_of t tables.now pictures.now)
         (painted_of t tables.now pictures.now)) × (result.count ≤ most_reply) }
 {
-    let refused = t.answer;
-    let state = t.state;
-    if refused != DONE {
-        return refuse(state, refused, reply);
+    if t.answer != DONE {
+        return refuse(t.state, t.answer, reply);
     }
-    let n = lent_len(state);
-    let none: [f32; 0] = [];
-    let f = state.frame(tables, pictures, &none, &mut reply[HEAD_LEN..HEAD_LEN + n]);
-    let answer = f.answer;
-    let after = f.state;
-    if answer != DONE {
-        return refuse(after, answer, reply);
+    let n = lent_len(t.state);
+    let f = t
+        .state
+        .frame(tables, pictures, &[], &mut reply[HEAD_LEN..HEAD_LEN + n]);
+    if f.answer != DONE {
+        return refuse(f.state, f.answer, reply);
     }
-    head(after, reply);
+    head(f.state, reply);
     Replied {
-        state: after,
+        state: f.state,
         count: HEAD_LEN + n,
     }
 }
@@ -146,16 +112,12 @@ fn work(state: Display, tables: &mut [u8], b: &[u8], reply: &mut [u8]) -> Replie
     ensures { Leaves (done_of state tables.old b.now) result tables.new
         reply.new }
 {
-    let parts = form::parts_of(b);
-    let good = parts.good;
-    if !good {
+    let Some(parts) = form::parts_of(b) else {
         return refuse(state, BAD_FORM, reply);
-    }
-    let at = parts.picture + 2;
-    let place = parts.writes;
-    let t = steps::run(state, tables, b, place);
+    };
+    let t = steps::run(state, tables, b, parts.writes);
     let s = start(t);
-    frame(s, tables, &b[at..], reply)
+    frame(s, tables, &b[parts.picture + 2..], reply)
 }
 
 // A line's text.
@@ -167,12 +129,10 @@ fn answer(state: Display, tables: &mut [u8], text: &[u8], reply: &mut [u8]) -> R
     if MOST_DIGITS < text.len() {
         return refuse(state, BAD_FORM, reply);
     }
-    let mut b = no_bytes();
-    let good = hexadecimal::read_bytes(text, &mut b);
-    if !good {
+    let mut b: [u8; MOST_BYTES] = filled(0);
+    let Some(n) = hexadecimal::read_bytes(text, &mut b) else {
         return refuse(state, BAD_FORM, reply);
-    }
-    let n = text.len() / 2;
+    };
     work(state, tables, &b[..n], reply)
 }
 
@@ -185,13 +145,11 @@ pub fn run_in(state: Display, tables: &mut [u8], text: &[u8], out: &mut [u8]) ->
         ≡ over (line_of state tables.old text.now).printed out.old }
     ensures count_le_most_printed { result.count ≤ most_printed }
 {
-    let mut reply = no_reply();
+    let mut reply: [u8; MOST_REPLY] = filled(0);
     let r = answer(state, tables, text, &mut reply);
-    let n = r.count;
-    let after = r.state;
-    let count = print_line(&reply[..n], out);
+    let count = print_line(&reply[..r.count], out);
     Printed {
-        state: after,
+        state: r.state,
         count,
     }
 }

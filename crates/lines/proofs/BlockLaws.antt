@@ -7,7 +7,7 @@ use native.Mathlib.Omega.{arith}
 use lib.ListN.{length, take, drop, length-drop}
 use lib.Seq.{length-take-le, drop_at, drop-drop}
 use lib.Dec.{ltb, leb}
-use borrow.Author.Tests.{lt-ltb, le-ltb, le-leb, eq-eqb, ne_eqb, ltb-true, leb-true}
+use borrow.Author.Tests.{lt-ltb, le-leb, eq-eqb, ne_eqb, ltb-true, leb-true}
 use Rattle.octets.specs.Bytes.{index_of}
 use Rattle.lists.specs.Over.{over}
 use Rattle.lists.proofs.Choice.{both_left, both_right}
@@ -117,14 +117,6 @@ module _ (c f : Fed) (t u l o t' u' p : List ℕ) (inside : c.used < length l) (
   turn-over = rw (out-is, front_out) refl
 
 -- ---- `goes_on`
-
-pub goes_on-more : (n used count : ℕ) → used < n → leb (count + most_printed) out_len ≡ goes_on n used count
-unfolding goes_on
-goes_on-more n used count h = rw (lt-ltb used n h) refl
-
-pub goes_on-end : (n used count : ℕ) → n ≤ used → false ≡ goes_on n used count
-unfolding goes_on
-goes_on-end n used count h = rw (le-ltb used n h) refl
 
 pub goes_on-inside : (n used count : ℕ) → goes_on n used count ≡ true → (used < n) × (count + most_printed ≤ out_len)
 unfolding goes_on

@@ -13,7 +13,6 @@ ghost use Rattle.lines.specs.Engine.Turns.{line_run, line_fed, batch_at};
 use crate::sizes::{MOST_KEPT, OUT_LEN};
 use display::Display;
 use line::{MOST_PRINTED, Printed};
-use numbers::least;
 use texts::gather;
 
 // What goes on from call to call. Only `begin` and `feed` make one: its fields are closed to other
@@ -40,8 +39,10 @@ pub fn first() -> Going
     ensures { result ≡ begun }
 {
     let told = Display::new(1, false);
-    let state = told.state;
-    Going { state, held: 0 }
+    Going {
+        state: told.state,
+        held: 0,
+    }
 }
 
 // On to the end of one line at most. Where the line ends it is done and printed, else it is kept.
@@ -57,25 +58,24 @@ fn feed_line(going: Going, tables: &mut [u8], text: &mut [u8], block: &[u8], out
         out.old }
     ensures count_le_most_printed { result.count ≤ most_printed }
 {
-    let state = going.state;
     let g = gather(text, going.held, block);
-    let n = g.kept;
-    let used = g.used;
     if g.ended {
-        let r = line::run_in(state, tables, &text[..n], out);
-        let after = r.state;
+        let r = line::run_in(going.state, tables, &text[..g.kept], out);
         return Fed {
             going: Going {
-                state: after,
+                state: r.state,
                 held: 0,
             },
-            used,
+            used: g.used,
             count: r.count,
         };
     }
     Fed {
-        going: Going { state, held: n },
-        used,
+        going: Going {
+            state: going.state,
+            held: g.kept,
+        },
+        used: g.used,
         count: 0,
     }
 }
@@ -90,26 +90,21 @@ fn turn(c: Fed, tables: &mut [u8], text: &mut [u8], block: &[u8], out: &mut [u8]
         × (result.count ≤ out_len) }
     ensures out_after_2 { out.new ≡ over (take result.count out.new) out.old }
 {
-    let at = c.used;
-    let n = c.count;
-    let fed = feed_line(c.going, tables, text, &block[at..], &mut out[n..]);
-    let going = fed.going;
+    let fed = feed_line(c.going, tables, text, &block[c.used..], &mut out[c.count..]);
     Fed {
-        going,
-        used: at + fed.used,
-        count: n + fed.count,
+        going: fed.going,
+        used: c.used + fed.used,
+        count: c.count + fed.count,
     }
 }
 
 // Whether the loop below goes on: an answer is not begun that might not fit.
+#[tactic(auto, unfolding(crate::specs::Blocks::goes_on))]
 fn goes_on(len: usize, used: usize, count: usize) -> bool
     requires { count ≤ out_len }
     ensures { result ≡ goes_on len used count }
 {
-    if used < len {
-        return count + MOST_PRINTED <= OUT_LEN;
-    }
-    false
+    used < len && count + MOST_PRINTED <= OUT_LEN
 }
 
 // `crate::feed` on slices.
@@ -152,10 +147,12 @@ pub fn finish_in(going: Going, tables: &mut [u8], text: &[u8], out: &mut [u8]) -
         ≡ over (finish_of going tables.old text.now).printed out.old }
     ensures count_le_most_printed { result.count ≤ most_printed }
 {
-    let state = going.state;
-    let n = least(going.held, MOST_KEPT);
+    let n = going.held.min(MOST_KEPT);
     if n == 0 {
-        return Printed { state, count: 0 };
+        return Printed {
+            state: going.state,
+            count: 0,
+        };
     }
-    line::run_in(state, tables, &text[..n], out)
+    line::run_in(going.state, tables, &text[..n], out)
 }

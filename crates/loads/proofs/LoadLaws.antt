@@ -1,8 +1,8 @@
 -- What the code of a run of puts comes to, from the tests that it makes. Assumes nothing.
 use mathlib.Core.Path.{◌≡◌, refl, sym, ap, ap₂, ◌∙◌}
-use mathlib.Core.Bool.{Bool, true, false}
+use mathlib.Core.Bool.{Bool}
 use mathlib.Core.Logic.{⊎_elim}
-use mathlib.Core.List.{List, [], ◌∷◌, ◌++◌, append-nil}
+use mathlib.Core.List.{List, [], ◌∷◌, ◌++◌}
 use Prim.Native.Nat.{ℕ, zero, suc, ◌+◌, ◌-◌, ◌*◌, ◌^◌, ◌≤◌, ◌<◌}
 use native.Mathlib.Omega.{arith}
 use borrow.Author.Tests.{eq-eqb, ne_eqb}
@@ -12,9 +12,9 @@ use lib.ListN.{length, take, drop, set, length-set}
 use lib.Seq.{take_all}
 use Rattle.lists.specs.Over.{over}
 use Rattle.lists.proofs.Choice.{same_or, pick-keeps}
-use Rattle.answers.specs.Answers.{done, not_selected, bank_active, bank_full, tables_length}
+use Rattle.answers.specs.Answers.{done, bank_full, tables_length}
 use Rattle.tables.specs.Geometry.{tables_len}
-use Rattle.tables.specs.Selection.{controller_of, end_of, first_byte_of, named_by}
+use Rattle.tables.specs.Selection.{controller_of, end_of, first_byte_of}
 use Rattle.tables.specs.declared.Selection.{Selection}
 use Rattle.tables.proofs.Geometry.{bank-room}
 use Rattle.loads.specs.declared.Loaded.{Loaded}
@@ -23,22 +23,9 @@ use Rattle.loads.specs.Loads.{refusal_of, refusal_for, fits_of, stored, loaded, 
 -- ---- what is refused whatever the place
 
 module _ (bits : ℕ) (active : List ℕ) (made : Bool) (number long : ℕ) where
-  pub refusal-length : (long ≡ tables_len bits → ⊥) → tables_length ≡ refusal_of bits active made number long
+  refusal-length : (long ≡ tables_len bits → ⊥) → tables_length ≡ refusal_of bits active made number long
   unfolding refusal_of
   refusal-length ne = rw (ne_eqb _ _ ne)
-
-  module _ (l : long ≡ tables_len bits) where
-    pub refusal-none : made ≡ false → not_selected ≡ refusal_of bits active made number long
-    unfolding refusal_of
-    refusal-none m = rw (eq-eqb _ _ l, m)
-
-    pub refusal-active : made ≡ true → named_by active number ≡ true → bank_active ≡ refusal_of bits active made number long
-    unfolding refusal_of
-    refusal-active m n = rw (eq-eqb _ _ l, m, n)
-
-    pub refusal-passes : made ≡ true → named_by active number ≡ false → done ≡ refusal_of bits active made number long
-    unfolding refusal_of
-    refusal-passes m n = rw (eq-eqb _ _ l, m, n)
 
   -- what passes has tables of the right length
   pub passes-long : refusal_of bits active made number long ≡ done → long ≡ tables_len bits
@@ -69,19 +56,10 @@ pub stored-empty : (l : List ℕ) (o : ℕ) (part : List ℕ) → length part �
 stored-empty l o [] h = sym (stored-none l o)
 stored-empty l o (x ∷ part) h = absurd (omega arith)
 
-drop-take : (k : ℕ) (m : List ℕ) → drop k (take k m) ≡ []
-drop-take zero m = refl
-drop-take (suc k) [] = refl
-drop-take (suc k) (x ∷ m) = drop-take k m
-
-pub stored-lent : (l part : List ℕ) (o : ℕ) (out : List ℕ)
-    → out ≡ over part (take (o + length part - o) (drop o l))
+pub stored-lent : (l part : List ℕ) (o : ℕ) (out : List ℕ) → out ≡ part
     → take o l ++ (out ++ drop (o + length part - o) (drop o l)) ≡ stored l o part
 unfolding stored over
-stored-lent l part o out g =
-    let e : o + length part - o ≡ length part = omega arith in
-    let h = rw e at g in
-    rw (e, h, drop-take (length part) (drop o l), append-nil part)
+stored-lent l part o out g = let e : o + length part - o ≡ length part = omega arith in rw (e, g)
 
 -- ---- a run of puts
 

@@ -2,14 +2,15 @@
 // pending words. The bytes that fit are copied at once.
 #![tactic(auto)]
 
-ghost use Rattle.std.specs.Prelude.{◌≡◌, ◌+◌, ◌-◌, ◌*◌, ◌^◌, ◌≤◌, ◌<◌, min, length};
+ghost use Rattle.std.specs.Prelude.{◌≡◌, ◌+◌, ◌-◌, ◌*◌, ◌^◌, ◌≤◌, ◌<◌, length};
 ghost use Rattle.std.specs.Int.Bits.{bit_or};
+ghost use Rattle.answers.specs.Refusals.{answer_of};
 ghost use Rattle.tables.specs.Geometry.{tables_len};
 ghost use Rattle.tables.specs.Selection.{controller_of, end_of, first_byte_of};
 ghost use Rattle.loads.specs.Loads.{refusal_of, fits_of, stored, loaded, load_of, load_tables, writes_of, went_of};
 
-use answers::{BANK_ACTIVE, BANK_FULL, DONE, NO_REGISTER, NOT_SELECTED, TABLES_LENGTH};
-use numbers::{least, wide, word};
+use answers::{DONE, Refusal};
+use numbers::word;
 use tables::{Selection, controller_of, end_of, first_byte_of, is_named, tables_len};
 
 pub const REGISTERS: u32 = 52;
@@ -19,7 +20,8 @@ const WORDS: usize = REGISTERS as usize;
 // The bytes of a write in a run: its register, and its value, the lowest byte first.
 const WRITE_LEN: usize = 5;
 
-// What a run of puts leaves, 0 or the number of the refusal that stopped it, and how many were done.
+// What a run of puts leaves, 0 or the number of the refusal that stopped it, and how many were done. Here and in `Went`
+// the answer is a number, as `loaded` and `went_of` have it and a display's calls hand it on.
 #[derive(Clone, Copy)]
 pub struct Loaded {
     pub place: u32,
@@ -35,22 +37,28 @@ pub struct Went {
     pub done: usize,
 }
 
-// What a put is refused with whatever its place.
-fn refusal_of(bits: usize, active: &[u32; 52], made: bool, number: u32, long: usize) -> u8
+// Whether a put is refused whatever its place.
+#[tactic(auto, unfolding(crate::specs::Loads::refusal_of))]
+fn refusal_of(
+    bits: usize,
+    active: &[u32; 52],
+    selection: Selection,
+    long: usize,
+) -> Result<(), Refusal>
     requires { bits ≤ 2 }
-    ensures { result ≡ refusal_of bits active.now made number long }
+    ensures { answer_of result ≡ refusal_of bits active.now selection.made selection.number long }
 {
     let whole = tables_len(bits);
     if long != whole {
-        return TABLES_LENGTH;
+        return Err(Refusal::TablesLength);
     }
-    if !made {
-        return NOT_SELECTED;
+    if !selection.made {
+        return Err(Refusal::NotSelected);
     }
-    if is_named(active, number) {
-        return BANK_ACTIVE;
+    if is_named(active, selection.number) {
+        return Err(Refusal::BankActive);
     }
-    DONE
+    Ok(())
 }
 
 // The error word with the bit of a full table set.
@@ -60,30 +68,27 @@ fn with_full(errors: u32, number: u32) -> u32
     errors | (1 << (4 * controller_of(number) + 1))
 }
 
-// How many of n bytes fit from a place on: up to the selected table's end.
-fn fitting(bits: usize, place: u32, number: u32, n: usize) -> usize
+// How many of n bytes fit from the place on: up to the selected table's end.
+fn fitting(bits: usize, selection: Selection, n: usize) -> usize
     requires { bits ≤ 2 }
-    ensures { (result ≡ fits_of bits place number n) × (place + result < 2 ^ 32) }
+    ensures { (result ≡ fits_of bits selection.place selection.number n) × (selection.place + result < 2 ^ 32) }
 {
-    let end = end_of(bits, number);
-    if end <= place {
-        return 0;
-    }
-    least(n, (end - place) as usize)
+    let end = end_of(bits, selection.number);
+    n.min(end.saturating_sub(selection.place) as usize)
 }
 
-// Bytes that fit, from a place of the selected table on.
-fn store(bits: usize, tables: &mut [u8], place: u32, number: u32, part: &[u8])
-    requires { (bits ≤ 2) × (length tables.old ≡ tables_len bits) × (length part.now ≤ end_of bits number - place) }
-    ensures { tables.new
-        ≡ stored tables.old (first_byte_of bits number + place) part.now }
+// Bytes that fit, from the place of the selected table on.
+fn store(bits: usize, tables: &mut [u8], selection: Selection, part: &[u8])
+    requires { (bits ≤ 2) × (length tables.old ≡ tables_len bits)
+        × (length part.now ≤ end_of bits selection.number - selection.place) }
+    ensures { tables.new ≡ stored tables.old (first_byte_of bits selection.number + selection.place) part.now }
 {
-    if part.len() == 0 {
+    if part.is_empty() {
         return;
     }
-    let at = first_byte_of(bits, number) + (place as usize);
+    let at = first_byte_of(bits, selection.number) + (selection.place as usize);
     let end = at + part.len();
-    octets::copy(part, &mut tables[at..end]);
+    tables[at..end].copy_from_slice(part);
 }
 
 // A run of which nothing was done.
@@ -114,16 +119,14 @@ pub fn put_run(
         ≡ load_tables bits active.now selection tables.old run.now }
 {
     let place = selection.place;
-    if run.len() == 0 {
+    if run.is_empty() {
         return nothing(place, errors, DONE);
     }
-    let number = selection.number;
-    let refusal = refusal_of(bits, active, selection.made, number, tables.len());
-    if refusal != DONE {
-        return nothing(place, errors, refusal);
+    if let Err(refusal) = refusal_of(bits, active, selection, tables.len()) {
+        return nothing(place, errors, refusal.number());
     }
-    let fits = fitting(bits, place, number, run.len());
-    store(bits, tables, place, number, &run[..fits]);
+    let fits = fitting(bits, selection, run.len());
+    store(bits, tables, selection, &run[..fits]);
     let next = place + (fits as u32);
     if fits == run.len() {
         return Loaded {
@@ -135,8 +138,8 @@ pub fn put_run(
     }
     Loaded {
         place: next,
-        errors: with_full(errors, number),
-        answer: BANK_FULL,
+        errors: with_full(errors, selection.number),
+        answer: Refusal::BankFull.number(),
         done: fits,
     }
 }
@@ -148,19 +151,16 @@ pub fn write_run(pending: &mut [u32; 52], run: &[u8]) -> Went
     ensures pending { pending.new ≡ (writes_of pending.old run.now).left }
 {
     let items = run.len() / WRITE_LEN;
-    let mut i: usize = 0;
-    while i < items {
+    for i in 0..items {
         let at = WRITE_LEN * i;
-        let next = i + 1;
-        let register = wide(run[at]);
+        let register = usize::from(run[at]);
         if WORDS <= register {
             return Went {
-                answer: NO_REGISTER,
+                answer: Refusal::NoRegister.number(),
                 done: i,
             };
         }
         pending[register] = word(run, at + 1) as u32;
-        i = next;
     }
     Went {
         answer: DONE,

@@ -1,29 +1,31 @@
 -- A reply made one part behind the other: the list, an image's reply and a line's, as the code leaves
 -- them. Assumes nothing.
-use Prim.Native.Nat.{ℕ, zero, suc, ◌+◌, ◌-◌, ◌*◌, ◌/◌, ◌<◌, ◌≤◌}
+use Prim.Native.Nat.{ℕ, ◌+◌, ◌-◌, ◌*◌, ◌/◌, ◌%◌, ◌<◌, ◌≤◌}
 use mathlib.Core.Path.{◌≡◌, refl, sym, ap, ◌∙◌}
-use mathlib.Core.Bool.{Bool, true, false}
+use mathlib.Core.Bool.{true, false}
 use mathlib.Core.List.{List, [], ◌∷◌, ◌++◌, append_assoc, append-nil}
 use native.Mathlib.Omega.{arith}
 use native.Mathlib.Numerals.{add-one}
 use lib.Dec.{eqb}
 use lib.ListN.{length, get_or, take, drop, length-take, get_or-append}
-use lib.Seq.{length-take-le, take-append-add, take_at, take_all}
+use lib.Seq.{length-take-le, take-append-add, take_at}
 use borrow.Author.Tests.{eq-eqb, ne_eqb}
+use Rattle.std.specs.Int.{to_be_bytes}
+use Rattle.std.proofs.Common.{w32}
 use Rattle.lists.specs.Choice.{pick}
 use Rattle.lists.specs.Over.{over}
 use Rattle.lists.proofs.Choice.{pick-keeps}
-use Rattle.lists.proofs.Over.{length_over}
+use Rattle.lists.proofs.Over.{length_over, take-over}
 use Rattle.answers.specs.Answers.{done, empty_screen, image_length}
 use Rattle.words.specs.Fields.{width_of, height_of}
 use Rattle.words.specs.Check.{screen_of}
 use Rattle.words.specs.Image.{words_of, image_refusal}
 use Rattle.hexadecimal.specs.Hex.{is_hex, bytes_in}
-use Rattle.texts.specs.Replies.{bad_form, reply_text}
+use Rattle.texts.specs.Replies.{four_bytes, bad_form, reply_text}
 use Rattle.texts.proofs.PrintLaws.{length-reply_text}
 use Rattle.repair.specs.Image.{mend_answer, mend_image, mend_list, mend_count}
 use Rattle.repair.proofs.ImageLaws.{mend_list-long, mend_count-le}
-use Rattle.mend.specs.Sizes.{image_digits, image_bytes, most_changes, longest_reply, longest_line}
+use Rattle.mend.specs.Sizes.{image_digits, most_changes, longest_reply, longest_line}
 use Rattle.mend.specs.Line.{listed_at, listed_words, mend_reply, line_reply, mend_line}
 
 -- ---- `put`: the part p copied behind the first n bytes of s
@@ -58,7 +60,22 @@ changes-turn l f r r' i e q =
 pub changes-end : (l f r : List ℕ) (i n : ℕ) → r ≡ f ++ listed_words i l → i ≡ n → r ≡ f ++ listed_words n l
 changes-end l f r i n e q = e ∙ ap (λ (k : ℕ). f ++ listed_words k l) q
 
+-- ---- `put_change`: the three parts of a changed word, put behind f one after the other
+
+pub change-put : (l f a b c x y : List ℕ) (at : ℕ) → x ≡ to_be_bytes w32 (get_or l (at + 1) 0)
+    → y ≡ to_be_bytes w32 (get_or l (at + 2) 0) → a ≡ f ++ get_or l at 0 % 256 ∷ [] → b ≡ a ++ x → c ≡ b ++ y
+    → c ≡ f ++ listed_at l at
+change-put l f a b c x y at ex ey ea eb ec =
+    ec ∙ rw (eb, ea, ex, ey)
+    (append_assoc (f ++ get_or l at 0 % 256 ∷ []) (four_bytes (get_or l (at + 1) 0)) (four_bytes (get_or l (at + 2) 0))
+    ∙ append_assoc f (get_or l at 0 % 256 ∷ []) (four_bytes (get_or l (at + 1) 0) ++ four_bytes (get_or l (at + 2) 0)))
+
 -- ---- `reply_to`
+
+-- the list stands at the front of a longer one
+get_d_over : (a b : List ℕ) (i : ℕ) → i < length a → get_or (over a b) i 0 ≡ get_or a i 0
+unfolding over
+get_d_over a b i h = get_or-append a (drop (length a) b) 0 i h
 
 abbrev Byte : ℕ → Type 0
 Byte n = n < 256
@@ -74,11 +91,6 @@ mend_answer-lt image =
     (λ _. pick-keeps Byte (eqb (height_of w) 0) empty_screen done (λ _. omega arith) (λ _. omega arith)))
     (λ _. pick-keeps Byte (eqb (length image) 208) done image_length (λ _. omega arith) (λ _. omega arith))
 
--- the list stands at the front of a longer one
-get_d_over : (a b : List ℕ) (i : ℕ) → i < length a → get_or (over a b) i 0 ≡ get_or a i 0
-unfolding over
-get_d_over a b i h = get_or-append a (drop (length a) b) 0 i h
-
 -- there is room for it
 pub list-long : (image l l₀ : List ℕ) → 3 * most_changes ≡ length l₀ → l ≡ over (mend_list image) l₀
     → 3 * most_changes ≡ length l
@@ -87,16 +99,13 @@ list-long image l l₀ h e =
     ∙ sym (ap length e
     ∙ length_over (mend_list image) l₀ (omega (arith, h, mend_list-long image, mend_count-le image)))
 
-listed_words-over : (n : ℕ) (a b : List ℕ) → 3 * n ≤ length a → listed_words n (over a b) ≡ listed_words n a
-unfolding listed_words
-listed_words-over zero a b h = refl
-listed_words-over (suc n) a b h =
-    rw (
-      listed_words-over n a b (omega arith),
-      get_d_over a b (3 * n) (omega arith),
-      get_d_over a b (3 * n + 1) (omega arith),
-      get_d_over a b (3 * n + 2) (omega arith),
-    ) refl
+-- and it is the front, which has three numbers for each word
+pub list-front : (image l l₀ : List ℕ) (n : ℕ) → l ≡ over (mend_list image) l₀ → n ≡ mend_count image
+    → (take (3 * n) l ≡ mend_list image) × (length (take (3 * n) l) / 3 ≡ n)
+list-front image l l₀ n el en =
+    let long : 3 * n ≡ length (mend_list image) = omega (arith, mend_list-long image) in
+    let e : take (3 * n) l ≡ mend_list image = ap (take (3 * n)) el ∙ take-over (mend_list image) l₀ (3 * n) long in
+    (e, rw e (omega arith))
 
 module _ (image : List ℕ) (a : ℕ) (ea : a ≡ mend_answer image) where
   pub reply-refused : (r : List ℕ) → (a ≡ done → ⊥) → r ≡ a ∷ [] → r ≡ mend_reply image
@@ -105,13 +114,12 @@ module _ (image : List ℕ) (a : ℕ) (ea : a ≡ mend_answer image) where
       let k : mend_answer image ≡ done → ⊥ = λ z. h (ea ∙ z) in
       rw (ne_eqb (mend_answer image) done k) (e ∙ ap (λ (n : ℕ). n ∷ []) ea)
 
-  pub reply-done : (i l l₀ f r r' : List ℕ) (n : ℕ) → a ≡ done → i ≡ mend_image image → l ≡ over (mend_list image) l₀
+  pub reply-done : (i l f r r' : List ℕ) (n : ℕ) → a ≡ done → i ≡ mend_image image → l ≡ mend_list image
       → n ≡ mend_count image → f ≡ a ∷ [] → r ≡ f ++ i → r' ≡ r ++ listed_words n l → r' ≡ mend_reply image
   unfolding mend_reply
-  reply-done i l l₀ f r r' n h ei el en ef er e =
+  reply-done i l f r r' n h ei el en ef er e =
       let k : mend_answer image ≡ done = sym ea ∙ h in
-      let w = listed_words-over (mend_count image) (mend_list image) l₀ (omega (arith, mend_list-long image)) in
-      rw (eq-eqb (mend_answer image) done k) (e ∙ rw (er, ef, ei, el, en, ea, w) refl)
+      rw (eq-eqb (mend_answer image) done k) (e ∙ rw (er, ef, ei, el, en, ea) refl)
 
 -- ---- `answer`: a text and the bytes that it stands for
 
@@ -120,19 +128,14 @@ module _ (x r : List ℕ) where
   unfolding line_reply
   line-long h e = rw (ne_eqb (length x) image_digits h) e
 
-  pub line-bad : (a : Bool) → length x ≡ image_digits → a ≡ is_hex x → a ≡ false → r ≡ bad_form ∷ [] → r ≡ line_reply x
+  pub line-bad : length x ≡ image_digits → is_hex x ≡ false → r ≡ bad_form ∷ [] → r ≡ line_reply x
   unfolding line_reply
-  line-bad a h ea z e =
-      let g : is_hex x ≡ false = sym ea ∙ z in rw (eq-eqb (length x) image_digits h, g) e
+  line-bad h g e = rw (eq-eqb (length x) image_digits h, g) e
 
-  pub line-good : (a : Bool) (b : List ℕ) → length x ≡ image_digits → a ≡ is_hex x → a ≡ true
-      → (a ≡ true → take (length x / 2) b ≡ bytes_in x) → length b ≡ image_bytes → r ≡ mend_reply b → r ≡ line_reply x
+  pub line-good : (b : List ℕ) → length x ≡ image_digits → is_hex x ≡ true → b ≡ bytes_in x → r ≡ mend_reply b
+      → r ≡ line_reply x
   unfolding line_reply
-  line-good a b h ea z eb long e =
-      let g : is_hex x ≡ true = sym ea ∙ z in
-      let q : length b ≤ length x / 2 = omega arith in
-      let k : b ≡ bytes_in x = sym (take_all (length x / 2) b q) ∙ eb z in
-      rw (eq-eqb (length x) image_digits h, g) (e ∙ ap mend_reply k)
+  line-good b h g eb e = rw (eq-eqb (length x) image_digits h, g) (e ∙ ap mend_reply eb)
 
 -- ---- `run_line`
 

@@ -4,7 +4,6 @@
 #![tactic(auto)]
 
 ghost use Rattle.std.specs.Prelude.{◌≡◌, ◌≤◌, ◌<◌, length, take, IfOk, OnErr};
-ghost use Rattle.std.specs.Io.{ReadsAtMost};
 ghost use Rattle.lists.specs.Over.{over};
 ghost use Rattle.texts.specs.Lines.{line_in};
 ghost use Rattle.texts.specs.Engine.Gathers.{open_from};
@@ -14,7 +13,7 @@ ghost use Rattle.mend.specs.Failed.{LeftBySome};
 
 use crate::line::run_line;
 use crate::sizes::{IMAGE_KEPT, LONGEST_LINE};
-use numbers::least;
+use numbers::filled;
 use std::io::{self, Read};
 use texts::gather;
 
@@ -46,19 +45,17 @@ fn feed(held: usize, text: &mut [u8], block: &[u8], out: &mut [u8; LONGEST_LINE]
         × (result.count ≤ longest_line) }
 {
     let g = gather(text, held, block);
-    let n = g.kept;
-    let used = g.used;
     if g.ended {
-        let count = run_line(&text[..n], out);
+        let count = run_line(&text[..g.kept], out);
         return Answered {
             held: 0,
-            used,
+            used: g.used,
             count,
         };
     }
     Answered {
-        held: n,
-        used,
+        held: g.kept,
+        used: g.used,
         count: 0,
     }
 }
@@ -70,18 +67,11 @@ fn finish(held: usize, text: &[u8], out: &mut [u8; LONGEST_LINE]) -> usize
     ensures output { out.new ≡ over (last_text (take held text.now)) out.old }
     ensures fits { result ≤ longest_line }
 {
-    let n = least(held, IMAGE_KEPT);
+    let n = held.min(IMAGE_KEPT);
     if n == 0 {
         return 0;
     }
     run_line(&text[..n], out)
-}
-
-// What is printed: the first n bytes.
-fn write_front(rt: &impl Print, out: &[u8], n: usize) -> io::Result<()>
-    requires { (length out.now ≡ longest_line) × (n ≤ longest_line) }
-{
-    rt.write_all(&out[..n])
 }
 
 // A block, line by line; how many bytes of the next line it leaves. Each answer is written before the
@@ -102,18 +92,11 @@ fn pass(
     let mut at: usize = 0;
     while at < block.len() {
         let step = feed(held, text, &block[at..], out);
-        write_front(rt, out, step.count)?;
+        rt.write_all(&out[..step.count])?;
         held = step.held;
         at += step.used;
     }
     Ok(held)
-}
-
-// One block: how many bytes came, 0 at the end.
-fn read(input: &mut impl Read, block: &mut [u8]) -> io::Result<usize>
-    ensures { ReadsAtMost result block.new }
-{
-    input.read(block)
 }
 
 // Nothing says that the input ends, so the loop takes no more turns than a number that no run uses up.
@@ -128,37 +111,19 @@ fn run<R: Input + Print>(
     let mut input = rt.reader();
     let mut held: usize = 0;
     for _ in 0..u64::MAX {
-        let came = read(&mut input, block)?;
+        let came = input.read(block)?;
         if came == 0 {
             break;
         }
         held = pass(rt, held, text, &block[..came], out)?;
     }
     let count = finish(held, text, out);
-    write_front(rt, out, count)
-}
-
-fn no_text() -> [u8; IMAGE_KEPT]
-    ensures { image_kept ≡ length result }
-{
-    [0; IMAGE_KEPT]
-}
-
-fn no_line() -> [u8; LONGEST_LINE]
-    ensures { longest_line ≡ length result }
-{
-    [0; LONGEST_LINE]
-}
-
-fn no_block() -> [u8; BLOCK_LEN]
-    ensures { 65536 ≡ length result }
-{
-    [0; BLOCK_LEN]
+    rt.write_all(&out[..count])
 }
 
 fn main(rt: HostRuntime) -> io::Result<()> {
-    let mut text = no_text();
-    let mut block = no_block();
-    let mut out = no_line();
+    let mut text: [u8; IMAGE_KEPT] = filled(0);
+    let mut block: [u8; BLOCK_LEN] = filled(0);
+    let mut out: [u8; LONGEST_LINE] = filled(0);
     run(&rt, &mut text, &mut block, &mut out)
 }

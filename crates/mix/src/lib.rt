@@ -1,4 +1,4 @@
-// One channel of a pixel over what is under it, and the alpha that a fade gives. Nothing here
+// One channel of a pixel over what is under it, the alpha that a fade gives, and the colour of the ground. Nothing here
 // knows of layers or buffers.
 #![tactic(auto)]
 
@@ -14,6 +14,14 @@ pub const ALPHA_PLACE: usize = 3;
 
 // The alpha at which nothing under a pixel is seen, and that a fill writes.
 pub const OPAQUE: u8 = 255;
+
+// The one opaque colour of the ground, by its channels: here, below all that lay pixels on it.
+#[derive(Clone, Copy)]
+pub struct Ground {
+    pub c0: u8,
+    pub c1: u8,
+    pub c2: u8,
+}
 
 // Read as signed, a number of 32 bits is negative from here on.
 const NEGATIVE: u32 = 2147483648;

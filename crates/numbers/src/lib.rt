@@ -1,43 +1,32 @@
-// The smaller of two numbers, and numbers out of bytes and into them. Nothing here knows of displays.
+// Numbers out of bytes and into them, and arrays of one value. Nothing here knows of displays.
 #![tactic(auto)]
 
-ghost use Rattle.std.specs.Prelude.{◌≡◌, ◌+◌, ◌*◌, ◌≤◌, ◌<◌, ◌^◌, min, length};
+ghost use Rattle.std.specs.Prelude.{◌≡◌, ◌+◌, ◌*◌, ◌≤◌, ◌<◌, ◌^◌, length, replicate};
 ghost use Rattle.lists.specs.Little.{little_at};
 ghost use Rattle.lists.specs.Bytes.{little_byte, little_bytes};
 ghost use Rattle.lists.specs.Tab.{tab};
 
-pub fn least(a: usize, b: usize) -> usize
-    ensures { result ≡ min a b }
+// An array of one value. By a call, so that no proof of a caller writes its elements out.
+pub fn filled<T: Copy, const N: usize>(value: T) -> [T; N]
+    ensures { result ≡ replicate N value }
 {
-    if a <= b {
-        return a;
-    }
-    b
-}
-
-// By itself, so that callers know that it is small.
-pub fn wide(x: u8) -> usize
-    ensures { (result ≡ x) × (result < 2 ^ 8) }
-{
-    x as usize
+    [value; N]
 }
 
 // Four bytes, the lowest first.
+#[tactic(auto, unfolding(lists::specs::Little::little_at))]
 pub fn word(s: &[u8], at: usize) -> usize
     requires { at + 4 ≤ length s.now }
     ensures { (result ≡ little_at s.now at) × (result < 2 ^ 32) }
 {
-    wide(s[at]) + 256 * wide(s[at + 1]) + 65536 * wide(s[at + 2]) + 16777216 * wide(s[at + 3])
+    u32::from_le_bytes([s[at], s[at + 1], s[at + 2], s[at + 3]]) as usize
 }
 
 fn put_word(part: &mut [u8], value: u32)
     requires { length part.old ≡ 4 }
     ensures { part.new ≡ tab 4 (little_byte value) }
 {
-    part[0] = (value % 256) as u8;
-    part[1] = (value / 256 % 256) as u8;
-    part[2] = (value / 65536 % 256) as u8;
-    part[3] = (value / 16777216 % 256) as u8;
+    part.copy_from_slice(&value.to_le_bytes());
 }
 
 // A row of words as bytes, the lowest of each first.
@@ -45,11 +34,8 @@ pub fn put_words(part: &mut [u8], words: &[u32])
     requires { (length part.old ≡ 4 * length words.now) × (length words.now < 2 ^ 32) }
     ensures { part.new ≡ tab (4 * length words.now) (little_bytes words.now) }
 {
-    let mut i: usize = 0;
-    while i < words.len() {
+    for i in 0..words.len() {
         let at = 4 * i;
-        let end = at + 4;
-        put_word(&mut part[at..end], words[i]);
-        i += 1;
+        put_word(&mut part[at..at + 4], words[i]);
     }
 }

@@ -13,7 +13,8 @@ use mix::PIXEL_LEN;
 use words::fields::{Layer, layer_of};
 use words::pictures::Pictures;
 
-// The first `count` of `layers` are layer numbers; the rest is 0.
+// The first `count` of `layers` are layer numbers; the rest is 0. An array with its count, and no slice of it: a state
+// holds an order, is copied, and has no heap.
 #[derive(Clone, Copy)]
 pub struct Order {
     pub layers: [u8; 8],
@@ -27,14 +28,22 @@ pub struct Layout {
     pub pictures: Pictures,
 }
 
+const NO_LAYERS: Order = Order {
+    layers: [0; 8],
+    count: 0,
+};
+
+const NO_PICTURES: Pictures = Pictures {
+    starts: [0; 8],
+    bytes: 0,
+    floats: 0,
+};
+
 // Whether a layer is enabled and of depth d.
 pub fn is_here(l: Layer, d: usize) -> bool
     ensures { result ≡ here l d }
 {
-    if l.on {
-        return (l.depth as usize) == d;
-    }
-    false
+    l.on && (l.depth as usize) == d
 }
 
 // Layer n behind those found so far, if it is one of depth d.
@@ -56,10 +65,8 @@ fn with_depth(order: Order, w: &[u32; 52], d: usize) -> Order
     ensures { result ≡ packed (layers_below w.now (d + 1)) }
 {
     let mut found = order;
-    let mut n: usize = 0;
-    while n < 8 {
+    for n in 0..8 {
         found = with_layer(found, w, d, n);
-        n += 1;
     }
     found
 }
@@ -67,14 +74,9 @@ fn with_depth(order: Order, w: &[u32; 52], d: usize) -> Order
 pub fn order_of(w: &[u32; 52]) -> Order
     ensures { result ≡ packed (order_of w.now) }
 {
-    let mut found = Order {
-        layers: [0; 8],
-        count: 0,
-    };
-    let mut d: usize = 0;
-    while d < 8 {
+    let mut found = NO_LAYERS;
+    for d in 0..8 {
         found = with_depth(found, w, d);
-        d += 1;
     }
     found
 }
@@ -84,10 +86,7 @@ pub fn order_of(w: &[u32; 52]) -> Order
 fn picture_len(l: Layer) -> usize
     ensures { result ≡ picture_len l.floats l }
 {
-    if !l.on {
-        return 0;
-    }
-    if l.graphics {
+    if !l.on || l.graphics {
         return 0;
     }
     PIXEL_LEN * ((l.width as usize) * (l.height as usize))
@@ -115,26 +114,22 @@ fn with_picture(mut pictures: Pictures, l: Layer, n: usize) -> Pictures
 pub fn pictures_of(w: &[u32; 52]) -> Pictures
     ensures { result ≡ pictures_of w.now }
 {
-    let mut pictures = Pictures {
-        starts: [0; 8],
-        bytes: 0,
-        floats: 0,
-    };
-    let mut n: usize = 0;
-    while n < 8 {
+    let mut pictures = NO_PICTURES;
+    for n in 0..8 {
         pictures = with_picture(pictures, layer_of(w, n), n);
-        n += 1;
     }
     pictures
 }
 
 // Both, worked out afresh.
+#[tactic(auto, unfolding(crate::specs::Layout::layout_of))]
 pub fn layout_of(w: &[u32; 52]) -> Layout
     ensures { result ≡ layout_of w.now }
 {
-    let order = order_of(w);
-    let pictures = pictures_of(w);
-    Layout { order, pictures }
+    Layout {
+        order: order_of(w),
+        pictures: pictures_of(w),
+    }
 }
 
 // Both of words that enable no layer.
@@ -142,14 +137,7 @@ pub fn no_layers() -> Layout
     ensures { result ≡ no_layers }
 {
     Layout {
-        order: Order {
-            layers: [0; 8],
-            count: 0,
-        },
-        pictures: Pictures {
-            starts: [0; 8],
-            bytes: 0,
-            floats: 0,
-        },
+        order: NO_LAYERS,
+        pictures: NO_PICTURES,
     }
 }

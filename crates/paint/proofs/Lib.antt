@@ -3,7 +3,7 @@ pub mod FrameLaws
 pub mod GroundLaws
 pub mod ExtentLaws
 pub mod RowsLaws
-mod TurnLaws
 mod BegunLaws
+mod TurnLaws
 pub mod PartLaws
 pub mod Unique

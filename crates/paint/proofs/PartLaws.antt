@@ -6,13 +6,16 @@ use mathlib.Core.List.{List}
 use Prim.Native.Nat.{ℕ, ◌+◌, ◌*◌, ◌<◌}
 use native.Mathlib.Nat.{one-mul}
 use native.Mathlib.Omega.{arith}
-use borrow.Author.Tests.{eqb-true, ne_eqb}
-use lib.Dec.{eqb}
+use borrow.Author.Tests.{ne_eqb}
 use lib.ListN.{length}
+use Rattle.std.specs.Prelude.{Result, Ok}
+use Rattle.std.specs.Result.{IsErrAnd}
+use Rattle.std.proofs.lemmas.Result.{err_from_is_err_and}
 use Rattle.lists.specs.Choice.{pick, choose}
 use Rattle.lists.specs.Tab.{each}
-use Rattle.lists.proofs.Choice.{choose-cong}
 use Rattle.lists.proofs.Tab.{is-each, each-cong, each-each}
+use Rattle.answers.specs.Refusals.{number_of}
+use Rattle.answers.specs.declared.Refusal.{Refusal}
 use Rattle.words.specs.Fields.{shown_of, width_of, height_of}
 use Rattle.frames.specs.Scene.{Scene}
 use Rattle.frames.specs.Band.{mark_at, band_by, band_byte, band_of, errors_of}
@@ -22,7 +25,8 @@ use Rattle.frames.proofs.CallerLaws.{paint-fits}
 use Rattle.frames.proofs.LineLaws.{line-fits, frame-lines, line-room, length-frame_line, frame_line-at, frame_of-at, fill-line}
 use Rattle.plan.specs.declared.Part.{Part}
 use Rattle.paint.specs.Engine.Rows.{laid_byte, part_byte, PartFits}
-use Rattle.paint.specs.Painted.{answered, part_told, part_output, told_of, output_of, line_told_of}
+use Rattle.paint.specs.Painted.{answered, painted_by, told_of, output_of, line_told_of}
+use Rattle.paint.proofs.FrameLaws.{number-some}
 use Rattle.paint.proofs.GroundLaws.{ground-all}
 
 module _ (s : Scene) (part : Part) (fresh : Bool) (e : ℕ) (out : List ℕ) where
@@ -41,16 +45,12 @@ module _ (s : Scene) (part : Part) (fresh : Bool) (e : ℕ) (out : List ℕ) whe
   unfolding errors_of part_byte
   part-on e' out' t f g = (rw t f, g ∙ each-cong _ _ out (λ i p. rw t))
 
-module _ (s : Scene) (part : Part) (fresh : Bool) (out : List ℕ) (refusal errors : ℕ) where
-  abbrev Done : ℕ → ℕ → List ℕ → Type 0
-  Done told marks out' = (answered told marks ≡ part_told refusal s part errors) × (out' ≡ part_output refusal s part fresh out)
-
-  pub part-refused : (refusal ≡ 0 → ⊥) → Done refusal errors out
-  part-refused ne = (rw (ne_eqb refusal 0 ne), rw (ne_eqb refusal 0 ne))
-
-  pub part-done : (marks : ℕ) (out' : List ℕ) → refusal ≡ 0 → marks ≡ errors_of s part.low part.high errors
-      → out' ≡ each (part_byte s part fresh) out → Done 0 marks out'
-  part-done marks out' z m f = (rw z (ap (answered 0) m), rw z f)
+-- what a `?` hands on
+painted-refused : (o : Result ℕ Refusal) (r : Refusal) (errors : ℕ) → IsErrAnd o (λ q. q ≡ r)
+    → painted_by o errors ≡ answered (number_of r) errors
+painted-refused o r errors k =
+    let p = err_from_is_err_and o k in
+    ap (λ (o : Result ℕ Refusal). painted_by o errors) p.1 ∙ ap (λ (q : Refusal). answered (number_of q) errors) p.2
 
 -- ---- a band over the whole output
 
@@ -58,9 +58,9 @@ abbrev pub whole_part : List ℕ → ℕ → ℕ → Part
 whole_part w a b = record { low = a; high = b; first = 0; count = height_of w }
 
 module _ (s : Scene) (a b : ℕ) (fresh : Bool) (out : List ℕ) where
-  whole-fits : refusal_of s a b out ≡ 0 → PartFits s (whole_part s.words a b) out
-  whole-fits e =
-      let f = paint-fits _ _ _ _ _ _ _ _ e in
+  pub whole-fits : 0 ≡ refusal_of s a b out → PartFits s (whole_part s.words a b) out
+  whole-fits z =
+      let f = paint-fits _ _ _ _ _ _ _ _ (sym z) in
       record {
         lent = record { tables = f.lent; pictures = f.shown; floats = f.flows };
         long = f.long ∙ sym (frame-lines (width_of s.words) (height_of s.words));
@@ -85,19 +85,23 @@ module _ (s : Scene) (a b : ℕ) (fresh : Bool) (out : List ℕ) where
           ∙ sym (each-each (λ i p. pick fresh (fill_byte s.words i) p) (band_byte s a b) out)
       go false = refl
 
-  module _ (refusal errors : ℕ) (e : refusal ≡ refusal_of s a b out) where
-    pub whole-asked : refusal ≡ 0 → PartFits s (whole_part s.words a b) out
-    whole-asked z = whole-fits (sym e ∙ z)
+  module _ (errors : ℕ) where
+    -- an outcome and an output, as a band promises them
+    abbrev WholeDone : Result ℕ Refusal → List ℕ → Type 0
+    WholeDone outcome out' = (painted_by outcome errors ≡ told_of s a b out errors) × (out' ≡ output_of s a b fresh out)
 
-    pub whole-told : part_told refusal s (whole_part s.words a b) errors ≡ told_of s a b out errors
+    pub whole-refused : (r : Refusal) (o : Result ℕ Refusal) → number_of r ≡ refusal_of s a b out → IsErrAnd o (λ q. q ≡ r)
+        → WholeDone o out
     unfolding errors_after
-    whole-told = rw e
+    whole-refused r o e k =
+        let ne = ne_eqb (number_of r) 0 (number-some r) in (painted-refused o r errors k ∙ rw (← e, ne), rw (← e, ne))
 
-    pub whole-output : part_output refusal s (whole_part s.words a b) fresh out ≡ output_of s a b fresh out
-    whole-output =
-        rw e
-        (choose-cong (eqb (refusal_of s a b out) 0)
-        (λ t. whole-bytes (paint-fits _ _ _ _ _ _ _ _ (eqb-true _ _ t)).long) (λ t. refl))
+    pub whole-done : (after : ℕ) (out' : List ℕ) → 0 ≡ refusal_of s a b out → after ≡ errors_of s a b errors
+        → out' ≡ each (part_byte s (whole_part s.words a b) fresh) out → WholeDone (Ok after) out'
+    unfolding errors_after
+    whole-done after out' z m f =
+        let fits = paint-fits _ _ _ _ _ _ _ _ (sym z) in
+        (rw (← z) (ap (answered 0) m), rw (← z) (f ∙ whole-bytes fits.long))
 
 -- ---- a line
 
@@ -105,9 +109,9 @@ abbrev pub line_part : ℕ → Part
 line_part y = record { low = 0; high = 8; first = y; count = 1 }
 
 module _ (s : Scene) (y : ℕ) (out : List ℕ) where
-  line-asked-0 : line_refusal_of s y out ≡ 0 → PartFits s (line_part y) out
-  line-asked-0 e =
-      let f = line-fits _ _ _ _ _ _ _ e in
+  pub asked-fits : 0 ≡ line_refusal_of s y out → PartFits s (line_part y) out
+  asked-fits z =
+      let f = line-fits _ _ _ _ _ _ _ (sym z) in
       record {
         lent = record { tables = f.lent; pictures = f.shown; floats = f.flows };
         long = f.long ∙ sym (one-mul (line_len s.words));
@@ -126,17 +130,19 @@ module _ (s : Scene) (y : ℕ) (out : List ℕ) where
       ∙ frame_of-at s (y * line_len s.words + i) (omega (arith, line-room s.words y h))
       ∙ rw (fill-line s.words y i)))
 
-  module _ (refusal errors : ℕ) (e : refusal ≡ line_refusal_of s y out) where
-    pub line-asked : refusal ≡ 0 → PartFits s (line_part y) out
-    line-asked z = line-asked-0 (sym e ∙ z)
+  module _ (errors : ℕ) where
+    abbrev LineDone : Result ℕ Refusal → List ℕ → Type 0
+    LineDone outcome out' = (painted_by outcome errors ≡ line_told_of s y out errors) × (out' ≡ line_after s y out)
 
-    pub line-told : part_told refusal s (line_part y) errors ≡ line_told_of s y out errors
-    unfolding line_errors_after
-    line-told = rw e
+    pub line-refused : (r : Refusal) (o : Result ℕ Refusal) → number_of r ≡ line_refusal_of s y out → IsErrAnd o (λ q. q ≡ r)
+        → LineDone o out
+    unfolding line_errors_after line_after
+    line-refused r o e k =
+        let ne = ne_eqb (number_of r) 0 (number-some r) in (painted-refused o r errors k ∙ rw (← e, ne), rw (← e, ne))
 
-    pub line-output : part_output refusal s (line_part y) true out ≡ line_after s y out
-    unfolding line_after
-    line-output =
-        rw e
-        (choose-cong (eqb (line_refusal_of s y out) 0)
-        (λ t. let f = line-fits _ _ _ _ _ _ _ (eqb-true _ _ t) in line-bytes f.number f.long) (λ t. refl))
+    pub line-done : (after : ℕ) (out' : List ℕ) → 0 ≡ line_refusal_of s y out → after ≡ errors_of s 0 8 errors
+        → out' ≡ each (part_byte s (line_part y) true) out → LineDone (Ok after) out'
+    unfolding line_errors_after line_after
+    line-done after out' z m f =
+        let fits = line-fits _ _ _ _ _ _ _ (sym z) in
+        (rw (← z) (ap (answered 0) m), rw (← z) (f ∙ line-bytes fits.number fits.long))

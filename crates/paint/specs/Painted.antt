@@ -1,30 +1,26 @@
--- What painting answers, as the struct `Painted` holds it. Assumes nothing.
-use Rattle.std.specs.Prelude.{ℕ, Bool, List, eqb}
-use Rattle.lists.specs.Choice.{pick, choose}
-use Rattle.lists.specs.Tab.{each}
+-- What painting answers and leaves. Assumes nothing.
+use Rattle.std.specs.Prelude.{ℕ, Bool, List, eqb, Result, Ok, Err}
+use Rattle.lists.specs.Choice.{choose}
 use Rattle.answers.specs.Answers.{done}
+use Rattle.answers.specs.Refusals.{number_of}
+use Rattle.answers.specs.declared.Refusal.{Refusal}
 use Rattle.frames.specs.Scene.{Scene}
-use Rattle.frames.specs.Band.{band_of, errors_of}
+use Rattle.frames.specs.Band.{band_of}
 use Rattle.frames.specs.Frame.{refusal_of, fill_of, errors_after}
 use Rattle.frames.specs.Line.{line_refusal_of, line_errors_after}
-use Rattle.plan.specs.declared.Part.{Part}
-use Rattle.paint.specs.declared.Painted.{Painted}
-use Rattle.paint.specs.Engine.Rows.{part_byte}
 
--- a number, and the error word afterwards
+-- 0 or the number of the refusal, and the error word afterwards
+pub record Painted : Type 0 where
+  pub answer : ℕ
+  pub errors : ℕ
+
 abbrev pub answered : ℕ → ℕ → Painted
 answered answer errors = record { answer = answer; errors = errors }
 
--- ---- a part of a frame, with the number that it is refused with, or 0
-
--- what it answers, where the error word was this
-abbrev pub part_told : ℕ → Scene → Part → ℕ → Painted
-part_told refusal s part errors =
-    answered refusal (pick (eqb refusal done) (errors_of s part.low part.high errors) errors)
-
--- the output after it, over the background where `fresh`, else over what stood there
-abbrev pub part_output : ℕ → Scene → Part → Bool → List ℕ → List ℕ
-part_output refusal s part fresh out = choose (eqb refusal done) (each (part_byte s part fresh) out) out
+-- of an outcome, where the error word was this: one that is no refusal gives the error word afterwards
+abbrev pub painted_by : Result ℕ Refusal → ℕ → Painted
+painted_by (Ok after) errors = answered done after
+painted_by (Err refusal) errors = answered (number_of refusal) errors
 
 -- ---- a band
 

@@ -1,15 +1,20 @@
 // The lines of a part of a frame, from the first to the last.
-ghost use Rattle.std.specs.Prelude.{◌≡◌, true, ◌+◌, ◌*◌, ◌<◌, ◌≤◌, length};
+ghost use Rattle.std.specs.Prelude.{◌≡◌, true, Some, is_some, IfSome, ◌+◌, ◌*◌, ◌%◌, ◌<◌, ◌≤◌, length};
+ghost use Rattle.lists.specs.Tab.{each};
 ghost use Rattle.mix.specs.Pixel.{pixel_len};
 ghost use Rattle.words.specs.Fields.{width_of, grounds_of};
 ghost use Rattle.tables.specs.Geometry.{instructions};
 ghost use Rattle.frames.specs.Line.{line_len};
-ghost use Rattle.scanline.specs.Engine.Lines.{Banked, AllFit};
-ghost use Rattle.paint.specs.Engine.Rows.{most_pixels, Holds, RowsLaid, Prepared, Under, AllBanked, Extends, AllExtended};
+ghost use Rattle.scanline.specs.Engine.Lines.{Banked, AllFit, LentBy, under_byte};
+ghost use Rattle.paint.specs.Engine.Rows.{Holds, RowsLaid, LaidTo, Prepared, Under, Backed};
+ghost use Rattle.paint.specs.Engine.Rows.{AllBanked, Extends, AllExtended};
 
-use mix::PIXEL_LEN;
+use crate::scene::Scene;
+use mix::{Ground, PIXEL_LEN};
+use numbers::filled;
 use pen::spans::list_spans;
 use plan::{Part, Plan, Step};
+use scanline::Painting;
 use scanline::ground::lay_first;
 use scanline::hiding::lay_hiding;
 use scanline::line::layer_line;
@@ -24,121 +29,128 @@ const MOST_BYTES: usize = PIXEL_LEN * MOST_PIXELS;
 // Spans of the instructions of eight lists, as many as there are layers.
 const MOST_EXTENTS: usize = 8 * INSTRUCTION_COUNT;
 
-// Room for the longest line of colour indexes, and for it as pixels.
-fn index_room() -> [u8; MOST_PIXELS]
-    ensures { length result ≡ most_pixels }
+// The background of what is painted anew; what is painted over has none.
+pub fn ground_if(fresh: bool, w: &[u32; 52]) -> Option<Ground>
+    ensures fresh { is_some result ≡ fresh }
+    ensures backed { Backed result w.now }
 {
-    [0; MOST_PIXELS]
+    if fresh { Some(ground_of(w)) } else { None }
 }
 
-fn pixel_room() -> [u8; MOST_BYTES]
-    ensures { length result ≡ pixel_len * most_pixels }
+// The topmost layer, but for the lowest, that hides all under it on line y, where the line has a background: that layer is
+// laid, and those under it need not be painted. An attempt that fails leaves the line to be laid anew.
+fn lay_topmost(line: &mut [u8], painting: &Painting, plan: &Plan, y: usize) -> Option<usize>
+    requires { AllFit painting.now.tables.now painting.now.pictures.now painting.now.floats.now
+        (length line.old) plan.now }
+    ensures topmost { IfSome result (λ k. (k < plan.now.count)
+        × LaidTo (LentBy painting.now) painting.now.ground plan.now (k + 1) y line.old line.new) }
+    ensures ground { each (under_byte painting.now.ground) line.new
+        ≡ each (under_byte painting.now.ground) line.old }
 {
-    [0; MOST_BYTES]
+    let ground = painting.ground?;
+    for i in (1..plan.count).rev() {
+        if lay_hiding(line, painting.pictures, ground, &plan.steps[i], y) {
+            return Some(i);
+        }
+    }
+    None
+}
+
+// The ground of line y, and with it the layers up to the topmost that hides all under it, or the lowest where that takes
+// up the whole line. Answers how many layers of the plan that is.
+fn begin_line(
+    line: &mut [u8],
+    indexes: &mut [u8],
+    row: &mut [u8],
+    painting: &Painting,
+    plan: &Plan,
+    y: usize,
+) -> usize
+    requires line_len { length line.old % pixel_len ≡ 0 }
+    requires all_fit { AllFit painting.now.tables.now painting.now.pictures.now painting.now.floats.now
+        (length line.old) plan.now }
+    requires prepared { plan.now.drawn ≡ true
+        → Prepared (length line.old) indexes.old row.old painting.now plan.now }
+    ensures begun { LaidTo (LentBy painting.now) painting.now.ground plan.now result y line.old line.new }
+    ensures few { result ≤ plan.now.count }
+{
+    if let Some(top) = lay_topmost(line, painting, plan, y) {
+        return top + 1;
+    }
+    lay_first(line, indexes, row, painting, &plan.steps[0], plan.count, y)
+}
+
+// Line y, with all layers of the plan over its ground.
+fn lay_line(
+    line: &mut [u8],
+    indexes: &mut [u8],
+    row: &mut [u8],
+    painting: &Painting,
+    plan: &Plan,
+    y: usize,
+)
+    requires line_len { length line.old % pixel_len ≡ 0 }
+    requires all_fit { AllFit painting.now.tables.now painting.now.pictures.now painting.now.floats.now
+        (length line.old) plan.now }
+    requires prepared { plan.now.drawn ≡ true
+        → Prepared (length line.old) indexes.old row.old painting.now plan.now }
+    ensures { LaidTo (LentBy painting.now) painting.now.ground plan.now plan.now.count y line.old line.new }
+{
+    let from = begin_line(line, indexes, row, painting, plan, y);
+    for i in from..plan.count {
+        let at = INSTRUCTION_COUNT * i;
+        layer_line(line, indexes, row, painting, &plan.steps[i], at, y);
+    }
 }
 
 // The layers of a plan over the lines of a part, or over the background where the frame is a fresh one: it is laid
-// line by line, so that a line is still at hand when its layers come. A fresh line begins at the topmost layer that
-// hides all under it; an attempt that fails leaves the line to be laid anew. `out` has the part's lines. The layers of
-// a line are gone through here too: a plan is copied for a call, which a line would pay for, and so is a step, whose
-// width is therefore looked at first.
+// line by line, so that a line is still at hand when its layers come. `out` has the part's lines.
 fn lay_lines(
     out: &mut [u8],
     indexes: &mut [u8],
     row: &mut [u8],
     w: &[u32; 52],
-    tables: &[u8],
-    extents: &[u32],
-    under: &[u32; 16],
-    pictures: &[u8],
-    floats: &[f32],
-    fresh: bool,
-    plan: Plan,
+    painting: &Painting,
+    plan: &Plan,
     part: Part,
 )
     requires out_len { (length out.old ≡ part.count * line_len w.now) × (0 < width_of w.now) }
-    requires all_fit { AllFit tables.now pictures.now floats.now (line_len w.now) plan }
-    requires prepared { plan.drawn ≡ true → Prepared (line_len w.now) indexes.old row.old tables.now extents.now under.now
-        (grounds_of w.now) plan }
-    ensures { RowsLaid (Holds w.now tables.now pictures.now floats.now)
-        plan part fresh out.old out.new }
+    requires all_fit { AllFit painting.now.tables.now painting.now.pictures.now painting.now.floats.now
+        (line_len w.now) plan.now }
+    requires prepared { plan.now.drawn ≡ true
+        → Prepared (line_len w.now) indexes.old row.old painting.now plan.now }
+    requires backed { Backed painting.now.ground w.now }
+    ensures { RowsLaid (Holds w.now painting.now.tables.now painting.now.pictures.now painting.now.floats.now)
+        plan.now part (is_some painting.now.ground) out.old out.new }
 {
-    let width = screen_width(w) as usize;
-    let stride = PIXEL_LEN * width;
-    let ground = ground_of(w);
+    let stride = PIXEL_LEN * usize::from(screen_width(w));
     let first = part.first as usize;
-    let count = part.count as usize;
-    let mut k: usize = 0;
-    while k < count {
+    for k in 0..part.count as usize {
         let at = k * stride;
-        let y = first + k;
-        let line = &mut out[at..at + stride];
-        let mut top = plan.count;
-        let mut laid = false;
-        while fresh && !laid && 1 < top {
-            top -= 1;
-            if plan.steps[top].wide == width {
-                laid = lay_hiding(line, pictures, ground, plan.steps[top], y);
-            }
-        }
-        let mut i = top + 1;
-        if !laid {
-            i = lay_first(
-                line,
-                indexes,
-                row,
-                tables,
-                extents,
-                under,
-                pictures,
-                floats,
-                fresh,
-                ground,
-                plan.steps[0],
-                plan.count,
-                y,
-            );
-        }
-        while i < plan.count {
-            let step = plan.steps[i];
-            layer_line(
-                line,
-                indexes,
-                row,
-                tables,
-                extents,
-                pictures,
-                floats,
-                step,
-                INSTRUCTION_COUNT * i,
-                y,
-            );
-            i += 1;
-        }
-        k += 1;
+        lay_line(
+            &mut out[at..at + stride],
+            indexes,
+            row,
+            painting,
+            plan,
+            first + k,
+        );
     }
 }
 
 // The colours of a plan's lowest layer over the background.
-fn under_first(w: &[u32; 52], step: Step) -> [u32; 16]
-    ensures { Under (grounds_of w.now) step result }
+fn under_first(w: &[u32; 52], step: &Step) -> [u32; 16]
+    ensures { Under (grounds_of w.now) step.now result }
 {
-    let ground = ground_of(w);
     let palette = step.palette;
-    span::grounded(
-        palette,
-        step.layer.global,
-        step.alpha,
-        ground.c0,
-        ground.c1,
-        ground.c2,
-    )
+    span::grounded(palette, step.layer.global, step.alpha, ground_of(w))
 }
 
 // The spans of a step's instructions from `at` on, where it is a graphics layer.
-fn put_extents(extents: &mut [u32], tables: &[u8], step: Step, at: usize)
-    requires { (at + instructions ≤ length extents.old) × (step.layer.graphics ≡ true → Banked tables.now step) }
-    ensures { Extends tables.now step at extents.old extents.new }
+fn put_extents(extents: &mut [u32], tables: &[u8], step: &Step, at: usize)
+    requires { (at + instructions ≤ length extents.old)
+        × (step.now.layer.graphics ≡ true → Banked tables.now step.now) }
+    ensures { Extends tables.now step.now at extents.old extents.new }
 {
     if !step.layer.graphics {
         return;
@@ -152,74 +164,49 @@ fn put_extents(extents: &mut [u32], tables: &[u8], step: Step, at: usize)
 }
 
 // The spans of the instructions of a plan's graphics layers, each layer's in places of its own.
-fn extents_of(tables: &[u8], plan: Plan) -> [u32; MOST_EXTENTS]
-    requires { AllBanked tables.now plan }
-    ensures { AllExtended tables.now result plan }
+fn extents_of(tables: &[u8], plan: &Plan) -> [u32; MOST_EXTENTS]
+    requires { AllBanked tables.now plan.now }
+    ensures { AllExtended tables.now result plan.now }
 {
-    let mut extents = [0u32; MOST_EXTENTS];
-    let mut i: usize = 0;
-    while i < plan.count {
-        let step = plan.steps[i];
-        put_extents(&mut extents, tables, step, INSTRUCTION_COUNT * i);
-        i += 1;
+    let mut extents = filled(0);
+    for i in 0..plan.count {
+        put_extents(&mut extents, tables, &plan.steps[i], INSTRUCTION_COUNT * i);
     }
     extents
 }
 
-// The same, with what its rows need where they are made: room, which to clear costs more than many a line that has no such
-// layer, and what is worked out once for all lines.
-pub fn paint_rows(
-    out: &mut [u8],
-    w: &[u32; 52],
-    tables: &[u8],
-    pictures: &[u8],
-    floats: &[f32],
-    fresh: bool,
-    plan: Plan,
-    part: Part,
-)
-    requires out_len { (length out.old ≡ part.count * line_len w.now) × (0 < width_of w.now) }
-    requires all_fit { AllFit tables.now pictures.now floats.now (line_len w.now) plan }
-    ensures { RowsLaid (Holds w.now tables.now pictures.now floats.now)
-        plan part fresh out.old out.new }
+// The lines of a part, with what their rows need where they are made: room, which to clear costs more than many a line that
+// has no such layer, and what is worked out once for all lines.
+pub fn paint_rows(out: &mut [u8], scene: &Scene, fresh: bool, plan: &Plan, part: Part)
+    requires out_len { (length out.old ≡ part.count * line_len scene.now.words.now)
+        × (0 < width_of scene.now.words.now) }
+    requires all_fit { AllFit scene.now.tables.now scene.now.pictures.now scene.now.floats.now
+        (line_len scene.now.words.now) plan.now }
+    ensures { RowsLaid (Holds scene.now.words.now scene.now.tables.now scene.now.pictures.now scene.now.floats.now)
+        plan.now part fresh out.old out.new }
 {
-    if plan.drawn {
-        let mut indexes = index_room();
-        let mut row = pixel_room();
-        let extents = extents_of(tables, plan);
-        let under = under_first(w, plan.steps[0]);
-        lay_lines(
-            out,
-            &mut indexes,
-            &mut row,
-            w,
-            tables,
-            &extents,
-            &under,
-            pictures,
-            floats,
-            fresh,
-            plan,
-            part,
-        );
+    let w = scene.words;
+    let tables = scene.tables;
+    let painting = Painting {
+        tables,
+        pictures: scene.pictures,
+        floats: scene.floats,
+        extents: &[],
+        under: &[0; 16],
+        ground: ground_if(fresh, w),
+    };
+    if !plan.drawn {
+        lay_lines(out, &mut [], &mut [], w, &painting, plan, part);
         return;
     }
-    let mut none: [u8; 0] = [];
-    let mut nothing: [u8; 0] = [];
-    let no_extents: [u32; 0] = [];
-    let no_colours = [0u32; 16];
-    lay_lines(
-        out,
-        &mut none,
-        &mut nothing,
-        w,
-        tables,
-        &no_extents,
-        &no_colours,
-        pictures,
-        floats,
-        fresh,
-        plan,
-        part,
-    );
+    let extents = extents_of(tables, plan);
+    let under = under_first(w, &plan.steps[0]);
+    let drawn = Painting {
+        extents: &extents,
+        under: &under,
+        ..painting
+    };
+    let mut indexes = filled::<u8, MOST_PIXELS>(0);
+    let mut row = filled::<u8, MOST_BYTES>(0);
+    lay_lines(out, &mut indexes, &mut row, w, &drawn, plan, part);
 }

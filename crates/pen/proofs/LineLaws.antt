@@ -1,7 +1,7 @@
 -- The laws of an instruction and of a list said of whole lines: what the workers draw and the opcode that
 -- the code has met give the rule of the definition. Assumes nothing.
 use mathlib.Core.Path.{◌≡◌, refl, sym, ap, ◌∙◌}
-use mathlib.Core.Logic.{◌⊎◌, ⊎_elim}
+use mathlib.Core.Logic.{⊎_elim}
 use mathlib.Core.Bool.{Bool, true, false}
 use mathlib.Core.List.{List}
 use Prim.Native.Nat.{ℕ, ◌+◌}
@@ -55,12 +55,6 @@ module _ (ins : List ℕ) (k v op : ℕ) (l : List ℕ) where
       q ∙ each-id _ l (λ u old. rw (ne_eqb _ 10 a, ne_eqb _ 14 c)),
       t ∙ rw (ne_eqb _ 12 b, ne_eqb _ 14 c),
     )
-
-    pub under-other : (op ≡ 11) ⊎ (op ≡ 13) → l' ≡ l → text ≡ false → Under l' text
-    under-other o = ⊎_elim
-        (λ (e : op ≡ 11). under_none (λ h. omega arith) (λ h. omega arith) (λ h. omega arith))
-        (λ (e : op ≡ 13). under_none (λ h. omega arith) (λ h. omega arith) (λ h. omega arith))
-        o
 
 module _ (bits : ℕ) (ins strings font : List ℕ) (k v op : ℕ) (l : List ℕ) (eo : op ≡ opcode ins k) where
   -- the box, and then the text

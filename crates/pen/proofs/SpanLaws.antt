@@ -5,10 +5,8 @@ use mathlib.Core.Logic.{◌⊎◌, inl, inr, ⊎_elim}
 use mathlib.Core.Bool.{Bool, false}
 use mathlib.Core.List.{List}
 use Prim.Native.Nat.{ℕ, ◌+◌, ◌*◌, ◌/◌, ◌%◌, ◌^◌, ◌≤◌, ◌<◌, max}
-use native.Mathlib.Nat.{not-suc-le-zero}
 use native.Mathlib.Omega.{arith}
-use lib.ListN.{length, get_or, set, length-set}
-use lib.Seq.{get_or-set_same, get_or-set_other}
+use lib.ListN.{get_or}
 use borrow.Author.Tests.{ne_eqb, le-leb, ltb-false}
 use Rattle.lists.specs.Tab.{each}
 use Rattle.lists.proofs.Choice.{split, both-not}
@@ -90,25 +88,6 @@ span_none ins k op span eo a b c s = record {
   is = s ∙ rw (← eo, ne_eqb _ 10 a, ne_eqb _ 12 b, ne_eqb _ 14 c);
   beside = λ v _ bits strings font u old. rw (← eo, ne_eqb _ 10 a, ne_eqb _ 12 b, ne_eqb _ 14 c);
 }
-
--- ---- the spans of a list
-
-pub spanned-none : (ins spans : List ℕ) → Spanned ins 0 spans
-spanned-none ins spans = record { room = omega arith; span = λ k h. absurd (not-suc-le-zero h) }
-
-pub spanned-more : (ins : List ℕ) {spans : List ℕ} (k span : ℕ) → Spanned ins k spans → k < length spans
-    → Span ins k span → Spanned ins (k + 1) (set spans k span)
-spanned-more ins {spans} k span s h c = record {
-  room = omega (arith, length-set spans k span);
-  span = λ j b. ⊎_elim
-      (λ (lt : j < k). rw (get_or-set_other spans k j span 0 (λ (q : j ≡ k). omega arith)) (s.span j lt))
-      (λ (ge : k ≤ j). let q : j ≡ k = omega arith in rw (q, get_or-set_same spans k span 0 h) c)
-      (split j k);
-}
-
-pub spanned-all : (ins : List ℕ) {spans : List ℕ} (k count : ℕ) → Spanned ins k spans → k ≤ count → count ≤ k
-    → Spanned ins count spans
-spanned-all ins {spans} k count s a b = let q : k ≡ count = omega arith in rw q at s
 
 -- ---- a line that an instruction leaves
 

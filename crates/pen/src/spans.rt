@@ -1,7 +1,8 @@
 // The rows that each instruction of a list can touch, worked out once for all lines of a painting, so that a
 // line passes over the instructions beside it without a look at their words. A span is one word: the first row
-// in its lower half, and the first row after those of the instruction in its upper one.
-ghost use Rattle.std.specs.Prelude.{◌≡◌, ◌≤◌, ◌<◌, ◌^◌, max, length};
+// in its lower half, and the first row after those of the instruction in its upper one. It stays a word and no pair, since
+// `Spanned` and `list-spans-unique` tell of words.
+ghost use Rattle.std.specs.Prelude.{◌≡◌, ◌≤◌, ◌<◌, ◌^◌, length};
 ghost use Rattle.tables.specs.Geometry.{instructions, list_len};
 ghost use Rattle.pen.specs.Engine.Spans.{rows, on_span, Span, Spanned};
 
@@ -12,13 +13,13 @@ use tables::GLYPH_ROWS;
 const HALF: u32 = 65536;
 
 // Whether row v is one of a span's.
+#[tactic(auto, unfolding(crate::specs::Engine::Spans::on_span))]
 pub fn is_on(span: u32, v: usize) -> bool
     ensures { result ≡ on_span span v }
 {
-    if v < (span % HALF) as usize {
-        return false;
-    }
-    v < (span / HALF) as usize
+    let first = (span % HALF) as usize;
+    let end = (span / HALF) as usize;
+    first <= v && v < end
 }
 
 // The rows from `top` up to but not `end`.
@@ -27,16 +28,6 @@ fn span(top: usize, end: usize) -> u32
     ensures { result ≡ rows top end }
 {
     (top as u32) + HALF * (end as u32)
-}
-
-// Of two ends the later.
-fn later(a: usize, b: usize) -> usize
-    ensures { result ≡ max a b }
-{
-    if a <= b {
-        return b;
-    }
-    a
 }
 
 // The rows of instruction k: those of its box, of its text, or of both, which begin on the same row. Another
@@ -49,17 +40,12 @@ fn span_of(ins: &[u8], k: usize) -> u32
     let top = w2 % 4096;
     let box_end = w2 / 4096 % 4096 + 1;
     let text_end = top + GLYPH_ROWS * scale(w2 / 1073741824);
-    let op = opcode(ins, k);
-    if op == 10 {
-        return span(top, box_end);
+    match opcode(ins, k) {
+        10 => span(top, box_end),
+        12 => span(top, text_end),
+        14 => span(top, box_end.max(text_end)),
+        _ => 0,
     }
-    if op == 12 {
-        return span(top, text_end);
-    }
-    if op == 14 {
-        return span(top, later(box_end, text_end));
-    }
-    0
 }
 
 // The spans of the first `count` instructions, in as many words.
@@ -67,9 +53,7 @@ pub fn list_spans(spans: &mut [u32], ins: &[u8], count: usize)
     requires { (length ins.now ≡ list_len) × (count ≤ instructions) × (count ≤ length spans.old) }
     ensures { Spanned ins.now count spans.new }
 {
-    let mut k = 0;
-    while k < count {
+    for k in 0..count {
         spans[k] = span_of(ins, k);
-        k += 1;
     }
 }

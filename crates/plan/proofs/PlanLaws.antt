@@ -20,7 +20,11 @@ use Rattle.words.proofs.OrderLaws.{Enabled, order_of-enabled, length-order_of-le
 use Rattle.plan.specs.declared.Step.{Step}
 use Rattle.plan.specs.declared.Plan.{Plan}
 use Rattle.plan.specs.declared.Part.{Part}
+use Rattle.tables.specs.Geometry.{list_kind}
+use Rattle.draw.specs.declared.ListEnd.{ListEnd}
+use Rattle.draw.specs.Drawing.{ended_of, list_end}
 use Rattle.frames.specs.Scene.{Scene}
+use Rattle.frames.specs.Pixel.{bank_bytes}
 use Rattle.frames.specs.Band.{missing, mark_at, band_by}
 use Rattle.frames.proofs.BandLaws.{band-through}
 use Rattle.plan.specs.Engine.Plan.{OfLayer, OfLayers, OfFirst, Made, blank_step, Planned, Pushed, Grown, Empty}
@@ -79,10 +83,6 @@ module _ (bits : ℕ) (w : List ℕ) (frame : ℕ) (tables : List ℕ) where
   planned-kept l p e q = record { room = q.room; count = q.count; made = q.made; drawn = q.drawn }
 
   module _ (part : Part) (n : ℕ) (p : Plan) where
-    -- of another depth
-    pub grown-other : within part.low part.high (layer_of w n) ≡ false → Grown bits w frame tables part n p p
-    grown-other e = record { grown = λ l q. rw (e, append-nil l) q; marks = rw e }
-
     module _ (errors : ℕ) (i : within part.low part.high (layer_of w n) ≡ true)
         (e : errors ≡ marked_by bits w tables n p.errors) where
       -- on none of the lines
@@ -188,6 +188,16 @@ planned-first s l p q h =
 pub marked-cong : (g e e' : Bool) (n errors : ℕ) → (g ≡ true → e ≡ e') → marked g e n errors ≡ marked g e' n errors
 marked-cong true e e' n errors f = ap (λ (t : Bool). marked true t n errors) (f refl)
 marked-cong false e e' n errors f = refl
+
+-- the bit that a layer sets, by its list's end
+pub mark-by : (bits : ℕ) (w tables : List ℕ) (n errors : ℕ) (l : Layer) (e : ListEnd) {marks : ℕ} → l ≡ layer_of w n
+    → (l.graphics ≡ true → e ≡ list_end (bank_bytes bits w tables n list_kind))
+    → marks ≡ marked l.graphics e.found n errors → marks ≡ marked_by bits w tables n errors
+unfolding marked_by
+mark-by bits w tables n errors l e q f m =
+    let ended = ended_of (bank_bytes bits w tables n list_kind) in
+    m ∙ marked-cong l.graphics e.found ended n errors (λ g. ap (λ (x : ListEnd). x.found) (f g))
+    ∙ ap (λ (x : Layer). marked x.graphics ended n errors) q
 
 pub marks-is : (s : Scene) (a b errors : ℕ) → a ≤ b → b ≤ 8
     → band_marks (bits_of s.profile) s.words s.tables a b errors ≡ band_by s.words (mark_at s) a b errors

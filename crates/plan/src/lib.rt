@@ -16,13 +16,15 @@ ghost use Rattle.order.specs.Layout.{layout_of};
 ghost use Rattle.plan.specs.Engine.Plan.{Made, Planned, Pushed, Grown, Empty, reaches, part_layers, is_made};
 ghost use Rattle.plan.specs.Engine.Plan.{marked, band_marks};
 
+use crate::source::Source;
 use colours::palette;
 use draw::{ListEnd, list_end};
 use mix::fade;
-use numbers::least;
 use order::Layout;
-use tables::{COLOURS, COLOURS_LEN, FONT, LIST, LIST_LEN, STRINGS, active_at};
+use tables::{COLOURS_LEN, Kind, LIST_LEN, active_at};
 use words::fields::{Layer, layer_of, screen_width};
+
+mod source;
 
 // One layer of a painting.
 #[derive(Clone, Copy)]
@@ -55,7 +57,8 @@ pub struct Part {
     pub count: u32,
 }
 
-// The first `count` of `steps` are the layers of a part, the lowest first.
+// The first `count` of `steps` are the layers of a part, the lowest first: an array and its count, since a painting
+// takes no memory from a heap.
 #[derive(Clone, Copy)]
 pub struct Plan {
     pub steps: [Step; 8],
@@ -83,13 +86,14 @@ fn palette_at(tables: &[u8], at: usize) -> [u32; 16]
 }
 
 // The end of layer n's list. A frame layer has none, and none is looked at.
-fn end_of(bits: usize, w: &[u32; 52], tables: &[u8], layer: Layer, n: usize) -> ListEnd
-    requires { (bits ≤ 2) × (n < 8) × (length tables.now ≡ tables_len bits) }
+fn end_of(source: &Source, layer: Layer, n: usize) -> ListEnd
+    requires { n < 8 }
     ensures { layer.graphics ≡ true
-        → result ≡ list_end (bank_bytes bits w.now tables.now n list_kind) }
+        → result ≡ list_end (bank_bytes source.now.bits source.now.words.now source.now.tables.now n list_kind) }
 {
     if layer.graphics {
-        return end_at(tables, active_at(bits, w, n as u32, LIST));
+        let at = active_at(source.bits, source.words, n as u32, Kind::List);
+        return end_at(source.tables, at);
     }
     ListEnd {
         found: true,
@@ -98,44 +102,44 @@ fn end_of(bits: usize, w: &[u32; 52], tables: &[u8], layer: Layer, n: usize) -> 
 }
 
 // Layer n, whose picture begins at `start` and whose list ends at `end`.
-fn step_of(
-    bits: usize,
-    w: &[u32; 52],
-    frame: u32,
-    tables: &[u8],
-    start: usize,
-    end: ListEnd,
-    n: usize,
-) -> Step
-    requires { (bits ≤ 2) × (n < 8) × (length tables.now ≡ tables_len bits) × (start ≡ start_at w.now n)
-        × ((layer_of w.now n).graphics ≡ true → end ≡ list_end (bank_bytes bits w.now tables.now n list_kind)) }
-    ensures { Made bits w.now frame tables.now n result }
+fn step_of(source: &Source, start: usize, end: ListEnd, n: usize) -> Step
+    requires { (n < 8) × (start ≡ start_at source.now.words.now n)
+        × ((layer_of source.now.words.now n).graphics ≡ true
+        → end ≡ list_end (bank_bytes source.now.bits source.now.words.now source.now.tables.now n list_kind)) }
+    ensures { Made source.now.bits source.now.words.now source.now.frame source.now.tables.now n result }
 {
+    let bits = source.bits;
+    let w = source.words;
     let layer = layer_of(w, n);
     let width = screen_width(w) as usize;
-    let left = least(layer.x as usize, width);
-    let wide = least(layer.width as usize, width - left);
-    let alpha = fade(layer.value, layer.target, layer.period, layer.start, frame);
-    let glyph_bits = bits as u8;
+    let left = (layer.x as usize).min(width);
+    let wide = (layer.width as usize).min(width - left);
+    let alpha = fade(
+        layer.value,
+        layer.target,
+        layer.period,
+        layer.start,
+        source.frame,
+    );
     let controller = n as u32;
-    let list = active_at(bits, w, controller, LIST);
-    let colours = active_at(bits, w, controller, COLOURS);
-    let strings = active_at(bits, w, controller, STRINGS);
-    let font = active_at(bits, w, controller, FONT);
-    let palette = palette_at(tables, colours);
+    let list = active_at(bits, w, controller, Kind::List);
+    let colours = active_at(bits, w, controller, Kind::Colours);
+    let strings = active_at(bits, w, controller, Kind::Strings);
+    let font = active_at(bits, w, controller, Kind::Font);
+    let palette = palette_at(source.tables, colours);
     Step {
         number: n,
-        layer: layer,
-        left: left,
-        wide: wide,
-        alpha: alpha,
-        bits: glyph_bits,
-        start: start,
-        list: list,
-        strings: strings,
-        font: font,
-        end: end,
-        palette: palette,
+        layer,
+        left,
+        wide,
+        alpha,
+        bits: bits as u8,
+        start,
+        list,
+        strings,
+        font,
+        end,
+        palette,
     }
 }
 
@@ -143,10 +147,7 @@ fn step_of(
 fn is_within(layer: Layer, part: Part) -> bool
     ensures { result ≡ within part.low part.high layer }
 {
-    if layer.depth < part.low {
-        return false;
-    }
-    layer.depth < part.high
+    part.low <= layer.depth && layer.depth < part.high
 }
 
 // Whether a layer reaches one of the part's lines.
@@ -155,10 +156,7 @@ fn is_reached(layer: Layer, part: Part) -> bool
 {
     let first = part.first as usize;
     let top = layer.y as usize;
-    if top < first + (part.count as usize) {
-        return first < top + (layer.height as usize);
-    }
-    false
+    top < first + (part.count as usize) && first < top + (layer.height as usize)
 }
 
 // The error word with bit 4n set, where layer n is a graphics layer whose list has no END.
@@ -166,23 +164,17 @@ fn mark(errors: u32, layer: Layer, end: ListEnd, n: usize) -> u32
     requires { n < 8 }
     ensures { result ≡ marked layer.graphics end.found n errors }
 {
-    if !layer.graphics {
-        return errors;
+    if layer.graphics && !end.found {
+        return errors | (1 << (4 * (n as u32)));
     }
-    if end.found {
-        return errors;
-    }
-    errors | (1 << (4 * (n as u32)))
+    errors
 }
 
 // Whether a layer's rows are drawn, or turned from floats to bytes, before they are laid.
 pub fn is_made(layer: Layer) -> bool
     ensures { result ≡ is_made layer }
 {
-    if layer.graphics {
-        return true;
-    }
-    layer.floats
+    layer.graphics || layer.floats
 }
 
 // The plan with a step behind it.
@@ -201,31 +193,21 @@ fn pushed(mut plan: Plan, step: Step) -> Plan
 
 // The plan with layer n behind it, if its depth is one of the part's and it reaches one of the part's lines; of a
 // layer that reaches none, only its list's END is asked for.
-fn with_layer(
-    plan: Plan,
-    bits: usize,
-    w: &[u32; 52],
-    frame: u32,
-    tables: &[u8],
-    starts: [u32; 8],
-    n: usize,
-    part: Part,
-) -> Plan
-    requires { (bits ≤ 2) × (n < 8) × (length tables.now ≡ tables_len bits) × (starts ≡ tab 8 (start_at w.now))
-        × (plan.count < 8) }
-    ensures { Grown bits w.now frame tables.now part n plan result }
+fn with_layer(plan: Plan, source: &Source, starts: [u32; 8], n: usize, part: Part) -> Plan
+    requires { (n < 8) × (starts ≡ tab 8 (start_at source.now.words.now)) × (plan.count < 8) }
+    ensures { Grown source.now.bits source.now.words.now source.now.frame source.now.tables.now part n plan result }
 {
-    let layer = layer_of(w, n);
+    let layer = layer_of(source.words, n);
     if !is_within(layer, part) {
         return plan;
     }
-    let end = end_of(bits, w, tables, layer, n);
+    let end = end_of(source, layer, n);
     let mut marked = plan;
     marked.errors = mark(plan.errors, layer, end, n);
     if !is_reached(layer, part) {
         return marked;
     }
-    let step = step_of(bits, w, frame, tables, starts[n] as usize, end, n);
+    let step = step_of(source, starts[n] as usize, end, n);
     pushed(marked, step)
 }
 
@@ -268,7 +250,7 @@ fn empty(errors: u32) -> Plan
         steps: [blank_step; 8],
         count: 0,
         drawn: false,
-        errors: errors,
+        errors,
     }
 }
 
@@ -287,23 +269,22 @@ pub fn plan_of(
     ensures errors { result.errors
         ≡ band_marks bits w.now tables.now part.low part.high errors }
 {
-    let starts = layout.pictures.starts;
+    let source = Source {
+        bits,
+        words: w,
+        frame,
+        tables,
+    };
     let layers = layout.order.layers;
-    let count = layout.order.count as usize;
     let mut plan = empty(errors);
-    let mut i: usize = 0;
-    while i < count {
+    for i in 0..layout.order.count as usize {
         plan = with_layer(
             plan,
-            bits,
-            w,
-            frame,
-            tables,
-            starts,
+            &source,
+            layout.pictures.starts,
             layers[i] as usize,
             part,
         );
-        i += 1;
     }
     plan
 }

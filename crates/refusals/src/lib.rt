@@ -4,15 +4,13 @@
 ghost use Rattle.std.specs.Prelude.{◌≡◌, true, false, ◌≤◌, eqb};
 ghost use Rattle.lists.specs.Choice.{pick, or_else};
 ghost use Rattle.answers.specs.Answers.{done, pictures_length, floats_length};
+ghost use Rattle.answers.specs.Refusals.{number_of, answer_of};
 ghost use Rattle.words.specs.Pictures.{pictures_len};
 ghost use Rattle.frames.specs.Frame.{band_refusal, size_refusal, output_refusal, tables_refusal};
 ghost use Rattle.frames.specs.Frame.{fill_refusal, paint_refusal};
 ghost use Rattle.frames.specs.Line.{number_refusal, length_refusal, line_refusal};
 
-use answers::{
-    DONE, FLOATS_LENGTH, NO_BAND, NO_LINE, NO_SIZE, OUTPUT_LENGTH, PICTURES_LENGTH, TABLES_LENGTH,
-    or_else,
-};
+use answers::Refusal;
 use mix::PIXEL_LEN;
 use tables::tables_len;
 use words::fields::{screen_height, screen_width};
@@ -30,85 +28,82 @@ pub struct Lengths {
 }
 
 // 15, of a band's lower and upper end.
-fn band_refusal(low: u32, high: u32) -> u8
-    ensures { result ≡ band_refusal low high }
+fn band_refusal(low: u32, high: u32) -> Result<(), Refusal>
+    ensures { answer_of result ≡ band_refusal low high }
 {
-    if high < low {
-        return NO_BAND;
+    if high < low || DEPTHS < high {
+        return Err(Refusal::NoBand);
     }
-    if DEPTHS < high {
-        return NO_BAND;
-    }
-    DONE
+    Ok(())
 }
 
 // 12.
-fn size_refusal(w: &[u32; 52]) -> u8
-    ensures { result ≡ size_refusal w.now }
+fn size_refusal(w: &[u32; 52]) -> Result<(), Refusal>
+    ensures { answer_of result ≡ size_refusal w.now }
 {
-    if screen_width(w) == 0 {
-        return NO_SIZE;
+    if screen_width(w) == 0 || screen_height(w) == 0 {
+        return Err(Refusal::NoSize);
     }
-    if screen_height(w) == 0 {
-        return NO_SIZE;
-    }
-    DONE
+    Ok(())
 }
 
 // 13, of an output so long.
-fn output_refusal(w: &[u32; 52], out: usize) -> u8
-    ensures { result ≡ output_refusal w.now out }
+fn output_refusal(w: &[u32; 52], out: usize) -> Result<(), Refusal>
+    ensures { answer_of result ≡ output_refusal w.now out }
 {
     let width = screen_width(w) as usize;
     let height = screen_height(w) as usize;
     if out == PIXEL_LEN * (width * height) {
-        return DONE;
+        return Ok(());
     }
-    OUTPUT_LENGTH
+    Err(Refusal::OutputLength)
 }
 
 // 6, of tables so long, where a glyph's pixel has so many bits.
-fn tables_refusal(bits: usize, tables: usize) -> u8
+fn tables_refusal(bits: usize, tables: usize) -> Result<(), Refusal>
     requires { bits ≤ 2 }
-    ensures { result ≡ tables_refusal bits tables }
+    ensures { answer_of result ≡ tables_refusal bits tables }
 {
     if tables == tables_len(bits) {
-        return DONE;
+        return Ok(());
     }
-    TABLES_LENGTH
+    Err(Refusal::TablesLength)
 }
 
-// 14 or 18, which `answer` is, of a buffer so long, where another length is asked.
-fn buffer_refusal(asked: u32, lent: usize, answer: u8) -> u8
-    ensures { result ≡ pick (eqb lent asked) done answer }
+// A refusal, 14 or 18, of a buffer so long, where another length is asked.
+fn buffer_refusal(asked: u32, lent: usize, refusal: Refusal) -> Result<(), Refusal>
+    ensures { answer_of result ≡ pick (eqb lent asked) done (number_of refusal) }
 {
     if lent == (asked as usize) {
-        return DONE;
+        return Ok(());
     }
-    answer
+    Err(refusal)
 }
 
 // 6, then 14 and then 18, of what is lent to read.
-fn lent_refusal(bits: usize, asked: Pictures, lent: Lengths) -> u8
+fn lent_refusal(bits: usize, asked: Pictures, lent: Lengths) -> Result<(), Refusal>
     requires { bits ≤ 2 }
-    ensures { result ≡ or_else (tables_refusal bits lent.tables)
+    ensures { answer_of result ≡ or_else (tables_refusal bits lent.tables)
         (or_else (pick (eqb lent.pictures asked.bytes) done pictures_length)
         (pick (eqb lent.floats asked.floats) done floats_length)) }
 {
-    let pictures = buffer_refusal(asked.bytes, lent.pictures, PICTURES_LENGTH);
-    let floats = buffer_refusal(asked.floats, lent.floats, FLOATS_LENGTH);
-    or_else(tables_refusal(bits, lent.tables), or_else(pictures, floats))
+    tables_refusal(bits, lent.tables)?;
+    buffer_refusal(asked.bytes, lent.pictures, Refusal::PicturesLength)?;
+    buffer_refusal(asked.floats, lent.floats, Refusal::FloatsLength)
 }
 
-// What a fill answers for an output so long: 0, or the first of 12, 13.
-pub fn fill_refusal(w: &[u32; 52], out: usize) -> u8
-    ensures { result ≡ fill_refusal w.now out }
+// What a fill refuses for an output so long: the first of 12, 13.
+#[tactic(auto, unfolding(frames::specs::Frame::fill_refusal))]
+pub fn fill_refusal(w: &[u32; 52], out: usize) -> Result<(), Refusal>
+    ensures { answer_of result ≡ fill_refusal w.now out }
 {
-    or_else(size_refusal(w), output_refusal(w, out))
+    size_refusal(w).and(output_refusal(w, out))
 }
 
-// What a band answers for buffers so long: 0, or the first of 15, 12, 13, 6, 14, 18. A glyph's pixel has so many
-// bits, and the words ask for such pictures.
+// What a band refuses for buffers so long: the first of 15, 12, 13, 6, 14, 18. A glyph's pixel has so many
+// bits, and the words ask for such pictures. Told by parameters, as a line is below: the one caller of each would make
+// a value of them for this call alone.
+#[tactic(auto, unfolding(frames::specs::Frame::fill_refusal, frames::specs::Frame::paint_refusal))]
 pub fn paint_refusal(
     bits: usize,
     w: &[u32; 52],
@@ -117,37 +112,38 @@ pub fn paint_refusal(
     high: u32,
     out: usize,
     lent: Lengths,
-) -> u8
+) -> Result<(), Refusal>
     requires { (bits ≤ 2) × (asked.bytes ≡ pictures_len false w.now) × (asked.floats ≡ pictures_len true w.now) }
-    ensures { result ≡ paint_refusal bits w.now low high out lent.tables lent.pictures lent.floats }
+    ensures { answer_of result ≡ paint_refusal bits w.now low high out lent.tables lent.pictures lent.floats }
 {
-    let read = lent_refusal(bits, asked, lent);
-    let sized = or_else(size_refusal(w), or_else(output_refusal(w, out), read));
-    or_else(band_refusal(low, high), sized)
+    band_refusal(low, high)?;
+    fill_refusal(w, out)?;
+    lent_refusal(bits, asked, lent)
 }
 
 // 15, of a line's number.
-fn number_refusal(w: &[u32; 52], y: u32) -> u8
-    ensures { result ≡ number_refusal w.now y }
+fn number_refusal(w: &[u32; 52], y: u32) -> Result<(), Refusal>
+    ensures { answer_of result ≡ number_refusal w.now y }
 {
     if y < (screen_height(w) as u32) {
-        return DONE;
+        return Ok(());
     }
-    NO_LINE
+    Err(Refusal::NoBand)
 }
 
 // 13, of a line so long.
-fn length_refusal(w: &[u32; 52], out: usize) -> u8
-    ensures { result ≡ length_refusal w.now out }
+fn length_refusal(w: &[u32; 52], out: usize) -> Result<(), Refusal>
+    ensures { answer_of result ≡ length_refusal w.now out }
 {
     if out == PIXEL_LEN * (screen_width(w) as usize) {
-        return DONE;
+        return Ok(());
     }
-    OUTPUT_LENGTH
+    Err(Refusal::OutputLength)
 }
 
-// What line y answers for buffers so long: 0, or the first of 12, 15, 13, 6, 14, 18. A glyph's pixel has so many
+// What line y refuses for buffers so long: the first of 12, 15, 13, 6, 14, 18. A glyph's pixel has so many
 // bits, and the words ask for such pictures.
+#[tactic(auto, unfolding(frames::specs::Line::line_refusal))]
 pub fn line_refusal(
     bits: usize,
     w: &[u32; 52],
@@ -155,11 +151,12 @@ pub fn line_refusal(
     y: u32,
     out: usize,
     lent: Lengths,
-) -> u8
+) -> Result<(), Refusal>
     requires { (bits ≤ 2) × (asked.bytes ≡ pictures_len false w.now) × (asked.floats ≡ pictures_len true w.now) }
-    ensures { result ≡ line_refusal bits w.now y out lent.tables lent.pictures lent.floats }
+    ensures { answer_of result ≡ line_refusal bits w.now y out lent.tables lent.pictures lent.floats }
 {
-    let read = lent_refusal(bits, asked, lent);
-    let placed = or_else(number_refusal(w, y), or_else(length_refusal(w, out), read));
-    or_else(size_refusal(w), placed)
+    size_refusal(w)?;
+    number_refusal(w, y)?;
+    length_refusal(w, out)?;
+    lent_refusal(bits, asked, lent)
 }

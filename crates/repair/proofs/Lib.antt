@@ -10,3 +10,5 @@ pub mod OrderLaws
 pub mod KindLaws
 pub mod Unique
 pub mod Worked
+pub mod StepLaws
+pub mod Hints

@@ -29,10 +29,8 @@ pub fn list_changes<'a>(old: &'a [u32; 52], new: &'a [u32; 52], list: &mut [u32]
         ≡ over (changes_of old.now new.now) list.old }
 {
     let mut count: usize = 0;
-    let mut i: usize = 0;
-    while i < 52 {
+    for i in 0..52 {
         count = list_one(list, count, i, old[i], new[i]);
-        i += 1;
     }
     count
 }

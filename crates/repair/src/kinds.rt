@@ -2,10 +2,12 @@
 ghost use Rattle.std.specs.Prelude.{◌≡◌, ◌<◌};
 ghost use Rattle.repair.specs.Steps.{is_twofold, one_kind_at, one_kind};
 
+use crate::layers::each_layer;
 use words::change::with_bytes;
 use words::fields::{Layer, layer_of};
 
 // Whether a layer is of graphics and of floats at once. It may be disabled: a start refuses both bits there too.
+#[tactic(auto, using(crate::proofs::Hints::turns), unfolding(crate::specs::Steps::is_twofold))]
 fn is_twofold(l: Layer) -> bool
     ensures { result ≡ is_twofold l }
 {
@@ -15,6 +17,7 @@ fn is_twofold(l: Layer) -> bool
     false
 }
 
+#[tactic(auto, using(crate::proofs::Hints::turns), unfolding(crate::specs::Steps::one_kind_at))]
 fn one_kind_at(w: [u32; 52], n: usize) -> [u32; 52]
     requires { n < 8 }
     ensures { result ≡ one_kind_at n w }
@@ -25,14 +28,9 @@ fn one_kind_at(w: [u32; 52], n: usize) -> [u32; 52]
     w
 }
 
-pub fn one_kind(mut w: [u32; 52]) -> [u32; 52]
+#[tactic(auto, using(crate::proofs::Hints::turns), unfolding(crate::specs::Steps::one_kind))]
+pub fn one_kind(w: [u32; 52]) -> [u32; 52]
     ensures { result ≡ one_kind w }
 {
-    let mut n: usize = 0;
-    while n < 8 {
-        let next = one_kind_at(w, n);
-        w = next;
-        n += 1;
-    }
-    w
+    each_layer(w, one_kind_at)
 }

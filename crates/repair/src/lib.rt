@@ -1,6 +1,6 @@
 // Repair of a register image: 02 K4, with the step of K7. Each step is a function of the 52 words; the call
 // mends an image in place and lists what was changed.
-#![tactic(auto)]
+#![tactic(auto, using(crate::proofs::Hints::turns))]
 
 ghost use Rattle.std.specs.Prelude.{◌≡◌};
 ghost use Rattle.lists.specs.Over.{over};
@@ -13,7 +13,7 @@ use crate::depths::spread;
 use crate::kinds::one_kind;
 use crate::places::fit;
 use crate::sizes::{empties_off, larges_off};
-use answers::{DONE, IMAGE_LENGTH};
+use answers::{DONE, Refusal};
 use numbers::put_words;
 use starts::screen;
 use words::image::{IMAGE_LEN, words_at};
@@ -22,10 +22,12 @@ mod changes;
 mod clear;
 mod depths;
 mod kinds;
+mod layers;
 mod places;
 mod sizes;
 
 // The first four steps, and K7's: no reserved bit, each layer of one kind, and each enabled one on the screen.
+#[tactic(auto, using(crate::proofs::Hints::turns), unfolding(crate::specs::Steps::placed))]
 fn place(w: &[u32; 52]) -> [u32; 52]
     ensures { result ≡ placed w.now }
 {
@@ -33,6 +35,7 @@ fn place(w: &[u32; 52]) -> [u32; 52]
 }
 
 // The words mended. Words with no screen have no repair: the call refuses them.
+#[tactic(auto, using(crate::proofs::Hints::turns), unfolding(crate::specs::Steps::mend_of))]
 fn mend(w: &[u32; 52]) -> [u32; 52]
     ensures { result ≡ mend_of w.now }
 {
@@ -41,7 +44,7 @@ fn mend(w: &[u32; 52]) -> [u32; 52]
 
 // Mends the image in place. Answers 0, or the first of 16, 8; a refusal leaves the image and lists nothing.
 // `count` becomes how many words were changed, and of `list` three numbers are written for each: register,
-// old value, new value, in register order.
+// old value, new value, in register order. Numbers and a count beside the list, as C calls it.
 pub fn spoonwing_mend(image: &mut [u8], list: &mut [u32; 156], count: &mut usize) -> u32
     ensures answer { result ≡ mend_answer image.old }
     ensures image { image.new ≡ mend_image image.old }
@@ -50,12 +53,11 @@ pub fn spoonwing_mend(image: &mut [u8], list: &mut [u32; 156], count: &mut usize
 {
     *count = 0;
     if image.len() != IMAGE_LEN {
-        return IMAGE_LENGTH as u32;
+        return Refusal::ImageLength.number() as u32;
     }
     let old = words_at(image, 0);
-    let refusal = screen(&old);
-    if refusal != DONE {
-        return refusal as u32;
+    if let Err(refusal) = screen(&old) {
+        return refusal.number() as u32;
     }
     let new = mend(&old);
     let changed = list_changes(&old, &new, list);

@@ -2,10 +2,12 @@
 ghost use Rattle.std.specs.Prelude.{◌≡◌, ◌<◌};
 ghost use Rattle.repair.specs.Steps.{is_empty, empty_off, empties_off, is_large, large_off, larges_off};
 
+use crate::layers::each_layer;
 use words::change::with_off;
 use words::fields::{Layer, layer_of, screen_height, screen_width};
 
 // Whether a layer is enabled and of zero size.
+#[tactic(auto, using(crate::proofs::Hints::turns), unfolding(crate::specs::Steps::is_empty))]
 fn is_empty(l: Layer) -> bool
     ensures { result ≡ is_empty l }
 {
@@ -18,6 +20,7 @@ fn is_empty(l: Layer) -> bool
     false
 }
 
+#[tactic(auto, using(crate::proofs::Hints::turns), unfolding(crate::specs::Steps::empty_off))]
 fn empty_off(w: [u32; 52], n: usize) -> [u32; 52]
     requires { n < 8 }
     ensures { result ≡ empty_off n w }
@@ -29,19 +32,15 @@ fn empty_off(w: [u32; 52], n: usize) -> [u32; 52]
 }
 
 // Step 2.
-pub fn empties_off(mut w: [u32; 52]) -> [u32; 52]
+#[tactic(auto, using(crate::proofs::Hints::turns), unfolding(crate::specs::Steps::empties_off))]
+pub fn empties_off(w: [u32; 52]) -> [u32; 52]
     ensures { result ≡ empties_off w }
 {
-    let mut n: usize = 0;
-    while n < 8 {
-        let next = empty_off(w, n);
-        w = next;
-        n += 1;
-    }
-    w
+    each_layer(w, empty_off)
 }
 
 // Whether a layer is an enabled frame layer that is larger than the screen either way.
+#[tactic(auto, using(crate::proofs::Hints::turns), unfolding(crate::specs::Steps::is_large))]
 fn is_large(width: u16, height: u16, l: Layer) -> bool
     ensures { result ≡ is_large width height l }
 {
@@ -57,6 +56,7 @@ fn is_large(width: u16, height: u16, l: Layer) -> bool
     false
 }
 
+#[tactic(auto, using(crate::proofs::Hints::turns), unfolding(crate::specs::Steps::large_off))]
 fn large_off(w: [u32; 52], n: usize) -> [u32; 52]
     requires { n < 8 }
     ensures { result ≡ large_off n w }
@@ -68,14 +68,9 @@ fn large_off(w: [u32; 52], n: usize) -> [u32; 52]
 }
 
 // Step 3.
-pub fn larges_off(mut w: [u32; 52]) -> [u32; 52]
+#[tactic(auto, using(crate::proofs::Hints::turns), unfolding(crate::specs::Steps::larges_off))]
+pub fn larges_off(w: [u32; 52]) -> [u32; 52]
     ensures { result ≡ larges_off w }
 {
-    let mut n: usize = 0;
-    while n < 8 {
-        let next = large_off(w, n);
-        w = next;
-        n += 1;
-    }
-    w
+    each_layer(w, large_off)
 }

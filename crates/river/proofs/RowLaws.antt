@@ -78,12 +78,6 @@ module _ {s : List Float} where
         (omega arith) (omega arith)))
         h (omega (arith, f.border))
 
--- four stores after one another
-pub then-four : (l : List ℕ) {l1 l2 l3 r : List ℕ} (i : ℕ) (p0 p1 p2 p3 : Pixel) → l1 ≡ written l i p0
-    → l2 ≡ written l1 (i + 4) p1 → l3 ≡ written l2 (i + 8) p2 → r ≡ written l3 (i + 12) p3
-    → r ≡ four_written l i p0 p1 p2 p3
-then-four l i p0 p1 p2 p3 e0 e1 e2 e3 = rw (e3, e2, e1, e0) refl
-
 -- ---- the whole row
 
 pub front-all : {s : List Float} {l : List ℕ} {k : ℕ} → Front s l k → length l ≤ k → l ≡ bytes_from s

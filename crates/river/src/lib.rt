@@ -141,10 +141,8 @@ fn put_fours(floats: &[f32], row: &mut [u8])
         × (four_len ≤ length row.old) }
     ensures { Front floats.now row.new (length row.new - four_len) }
 {
-    let mut i = 0;
-    while i < row.len() - FOUR_LEN {
-        put_four(floats, row, i);
-        i = i + FOUR_LEN;
+    for k in 0..(row.len() - 1) / FOUR_LEN {
+        put_four(floats, row, FOUR_LEN * k);
     }
 }
 
@@ -153,10 +151,9 @@ fn put_ones(floats: &[f32], row: &mut [u8])
     requires { (length row.old ≡ length floats.now) × (length row.old % pixel_len ≡ 0) }
     ensures { row.new ≡ bytes_from floats.now }
 {
-    let mut i = 0;
-    while i < row.len() {
+    for k in 0..row.len() / PIXEL_LEN {
+        let i = PIXEL_LEN * k;
         put(row, i, pixel_at(floats, i));
-        i = i + PIXEL_LEN;
     }
 }
 

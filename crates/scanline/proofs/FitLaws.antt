@@ -2,13 +2,11 @@
 -- and one that fits has its rows in its picture's buffer. Assumes nothing.
 use mathlib.Core.Path.{◌≡◌, ap}
 use mathlib.Core.Bool.{Bool, true, false}
-use mathlib.Core.List.{List}
 use Prim.Native.Nat.{ℕ, ◌+◌, ◌-◌, ◌*◌, ◌≤◌, ◌<◌}
 use native.Mathlib.Nat.{mul_comm}
 use native.Mathlib.Omega.{arith}
 use borrow.Author.Tests.{leb-true, ltb-true}
 use lib.Dec.{leb}
-use lib.Ieee.{Float}
 use lib.ListN.{length, get_or}
 use Rattle.lists.proofs.Choice.{both_left, both_right}
 use Rattle.lists.proofs.Digits.{row_room}
@@ -27,7 +25,7 @@ use Rattle.plan.specs.declared.Part.{Part}
 use Rattle.plan.specs.Engine.Plan.{blank_step, part_layers, OfLayer, OfLayers}
 use Rattle.scanline.specs.Engine.Lines.{Lent, Banked, Pictured, Fit, AllFit, OnRow, picture_end}
 use Rattle.scanline.specs.Engine.Lines.{row_start}
-use Rattle.plan.proofs.PlanLaws.{part_layers-enabled, length-part_layers-le, planned-layer, made-floats, made-graphics}
+use Rattle.plan.proofs.PlanLaws.{part_layers-enabled, length-part_layers-le, planned-layer}
 use Rattle.scanline.proofs.DrawLaws.{active-room, list-is}
 
 pub on_row_lem : (t : Step) (y : ℕ) → spans t.layer.y t.layer.height y ≡ true → OnRow t y
@@ -92,14 +90,3 @@ row_fits t y long wide r room =
     row_room _ _ _ (omega (arith, r.top, r.bottom)) in
     let turned = mul_comm t.layer.height t.layer.width in
     omega arith
-
--- a plan whose first step is a float layer is a drawn one, and so is one whose first step is a graphics layer
-pub first-drawn : {tables pictures : List ℕ} {floats : List Float} {bytes : ℕ} {p : Plan}
-    → AllFit tables pictures floats bytes p → 0 < p.count → (get_or p.steps 0 blank_step).layer.floats ≡ true
-    → p.drawn ≡ true
-first-drawn {p = p} k h f = k.drawn 0 h (made-floats (get_or p.steps 0 blank_step).layer f)
-
-pub graphics-drawn : {tables pictures : List ℕ} {floats : List Float} {bytes : ℕ} {p : Plan}
-    → AllFit tables pictures floats bytes p → (j : ℕ) → j < p.count → (get_or p.steps j blank_step).layer.graphics ≡ true
-    → p.drawn ≡ true
-graphics-drawn {p = p} k j h g = k.drawn j h (made-graphics (get_or p.steps j blank_step).layer g)

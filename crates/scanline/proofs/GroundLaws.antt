@@ -1,19 +1,19 @@
 -- The ground of a line, and the first layer with it. Assumes nothing.
 use mathlib.Core.Path.{◌≡◌, refl, sym, ap, ◌∙◌}
-use mathlib.Core.Bool.{Bool, true, false}
+use mathlib.Core.Bool.{true, false}
 use mathlib.Core.List.{List, [], ◌∷◌}
-use Prim.Native.Nat.{ℕ, zero, suc, ◌<◌}
-use borrow.Author.Tests.{eqb-true, ltb-true}
-use lib.Dec.{eqb, ltb}
+use Prim.Native.Nat.{ℕ, zero, suc}
+use borrow.Author.Tests.{eqb-true}
+use lib.Dec.{eqb}
 use lib.ListN.{length}
-use Rattle.lists.specs.Choice.{both}
+use Rattle.std.specs.Prelude.{Option, Some, None, is_some}
 use Rattle.lists.specs.Tab.{tab, each}
 use Rattle.lists.proofs.Choice.{both_left, both_right}
 use Rattle.lists.proofs.Tab.{each-id}
-use Rattle.words.specs.declared.fields.Ground.{Ground}
+use Rattle.mix.specs.declared.Ground.{Ground}
 use Rattle.colours.specs.Rows as rows
 use Rattle.plan.specs.declared.Step.{Step}
-use Rattle.scanline.specs.Engine.Lines.{OnRow, whole_line, ground_byte}
+use Rattle.scanline.specs.Engine.Lines.{OnRow, whole_line, ground_byte, under_byte}
 use Rattle.scanline.proofs.FitLaws.{on_row_lem}
 
 pub ground-kept : (g : Ground) (out : List ℕ) → out ≡ each (ground_byte g false) out
@@ -30,11 +30,33 @@ pub ground-filled : (g : Ground) (out : List ℕ)
 unfolding ground_byte
 ground-filled g out = tab-each _ out
 
--- of a fresh frame, what the line held does not count
-pub ground-anew : (g : Ground) (out out' : List ℕ) → length out' ≡ length out
-    → each (ground_byte g true) out' ≡ each (ground_byte g true) out
-ground-anew g out out' e =
-    sym (ground-filled g out') ∙ ap (λ (n : ℕ). tab n (rows.solid_byte g.c0 g.c1 g.c2)) e ∙ ground-filled g out
+-- ---- of a ground that may not be there
+
+pub under-kept : (out : List ℕ) → out ≡ each (under_byte None) out
+unfolding under_byte
+under-kept out = each-id _ out (λ i p. refl)
+
+pub under-filled : (g : Ground) (out : List ℕ) → tab (length out) (rows.solid_byte g.c0 g.c1 g.c2) ≡ each (under_byte (Some g)) out
+unfolding under_byte
+under-filled g out = ground-filled g out
+
+pub under-some : (g : Ground) (out : List ℕ) → each (ground_byte g true) out ≡ each (under_byte (Some g)) out
+unfolding under_byte
+under-some g out = refl
+
+-- it is that ground, of a fresh frame or of another
+pub under-is : (o : Option Ground) (g : Ground) → ((h : Ground) → o ≡ Some h → h ≡ g) → (i p : ℕ)
+    → under_byte o i p ≡ ground_byte g (is_some o) i p
+unfolding under_byte ground_byte
+under-is None g e i p = refl
+under-is (Some h) g e i p = ap (λ (k : Ground). rows.solid_byte k.c0 k.c1 k.c2 i) (e h refl)
+
+-- a line that was written on has the same ground, where there is one
+pub under-anew : (o : Option Ground) (h : Ground) (out out' : List ℕ) → o ≡ Some h → length out' ≡ length out
+    → each (under_byte o) out' ≡ each (under_byte o) out
+under-anew o h out out' s e =
+    rw s
+    (sym (under-filled h out') ∙ ap (λ (n : ℕ). tab n (rows.solid_byte h.c0 h.c1 h.c2)) e ∙ under-filled h out)
 
 -- ---- the first layer with it
 
@@ -42,10 +64,3 @@ pub whole-line : (t : Step) (pixels y : ℕ) → whole_line t pixels y ≡ true 
 unfolding whole_line
 whole-line t pixels y e =
     (eqb-true _ _ (both_left (eqb t.wide pixels) _ e), on_row_lem t y (both_right (eqb t.wide pixels) _ e))
-
-pub laid-first : (fresh : Bool) (count : ℕ) (t : Step) (pixels y : ℕ)
-    → both fresh (both (ltb 0 count) (whole_line t pixels y)) ≡ true
-    → (fresh ≡ true) × (0 < count) × (whole_line t pixels y ≡ true)
-laid-first fresh count t pixels y e =
-    let rest = both_right fresh (both (ltb 0 count) (whole_line t pixels y)) e in
-    (both_left fresh _ e, ltb-true _ _ (both_left (ltb 0 count) _ rest), both_right (ltb 0 count) _ rest)

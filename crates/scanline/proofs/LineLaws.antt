@@ -4,18 +4,16 @@ use mathlib.Core.Bool.{Bool, true, false, true≢false}
 use mathlib.Core.Logic.{◌⊎◌, inl, inr, ⊎_elim}
 use mathlib.Core.List.{List, ◌++◌}
 use Prim.Native.Nat.{ℕ, ◌+◌, ◌-◌, ◌*◌, ◌/◌, ◌%◌, ◌≤◌, ◌<◌}
-use native.Mathlib.Numerals.{add-one}
 use native.Mathlib.Omega.{arith}
 use borrow.Author.Tests.{le-leb, lt-ltb}
 use lib.Dec.{eqb}
 use lib.Ieee.{Float}
 use lib.ListN.{length, get_or, take, drop, take-append-drop, drop_of_length-le}
-use lib.Seq.{take_at, drop-cons}
 use Rattle.lists.specs.Choice.{pick, both}
 use Rattle.lists.specs.Tab.{each}
 use Rattle.lists.specs.Steps.{through}
 use Rattle.lists.proofs.Choice.{pick-cong}
-use Rattle.lists.proofs.Tab.{each_part, each-id, each-cong-below, each_turn, each-then, get_d_part}
+use Rattle.lists.proofs.Tab.{each_part, each-id, each-cong-below, each-then, get_d_part}
 use Rattle.lists.proofs.Steps.{through-none, through-id, through-cong, through-append, through-next, through-keep}
 use Rattle.mix.specs.Blend.{blend_of}
 use Rattle.words.specs.declared.fields.Layer.{Layer}
@@ -168,13 +166,6 @@ module _ (s : Scene) (y : ℕ) (t : Step) (m : OfLayer s t) where
       let f : (layer_of s.words t.number).graphics ≡ true = rw m.layer at g in
       rw f (row-drawn s t m tables _ pixels indexes same d u c (omega arith) hc)
 
-  -- such a row at the front of its room
-  pub front-own : (n : ℕ) (row rest : List ℕ) → length row ≡ n
-      → ((u c : ℕ) → u < t.wide → c < 4 → get_or row (4 * u + c) 0 ≡ own_at s t.number (y - t.layer.y) u c)
-      → (u c : ℕ) → u < t.wide → c < 4
-      → get_or (take n (row ++ rest)) (4 * u + c) 0 ≡ own_at s t.number (y - t.layer.y) u c
-  front-own n row rest e own u c h hc = rw (take_at row rest n e) (own u c h hc)
-
   -- ---- such a run over its part of the line is the layer over the line
 
   module _ (r : OnRow t y) (src : List ℕ)
@@ -288,16 +279,7 @@ module _ (s : Scene) (y : ℕ) where
       (λ i p. through-next (λ n q. line_byte s y n i q) l k p h
       ∙ ap (λ (m : ℕ). line_byte s y m i (line_to s y l k i p)) (sym q))
 
-  -- what is left of the layers, over the line, is the whole: one of them painted, and none left
-  pub line-left : (l line line' : List ℕ) (k n : ℕ) {whole : List ℕ} → k < length l → n ≡ get_or l k 0
-      → each (line_from s y l k) line ≡ whole → line' ≡ each (line_byte s y n) line
-      → each (line_from s y l (k + 1)) line' ≡ whole
-  unfolding line_from through
-  line-left l line line' k n h q e f =
-      each_turn (line_from s y l (k + 1)) (line_byte s y n) (line_from s y l k) line f
-      (λ i p. rw (drop-cons l k 0 h, q, add-one)) e
-
-  pub line-done : (l line : List ℕ) (k : ℕ) {whole : List ℕ} → length l ≤ k → each (line_from s y l k) line ≡ whole
-      → line ≡ whole
+  -- where no layer is left
+  pub line-rest : (l line : List ℕ) (k : ℕ) → length l ≤ k → line ≡ each (line_from s y l k) line
   unfolding line_from
-  line-done l line k h e = each-id _ line (λ i p. rw (drop_of_length-le l {i = k} h) (through-none _ p)) ∙ e
+  line-rest l line k h = each-id _ line (λ i p. rw (drop_of_length-le l {i = k} h) (through-none _ p))

@@ -1,147 +1,78 @@
 // The ground of a line: the background where the frame is a fresh one, else what is there. Where the lowest layer takes up
 // the whole line of a fresh frame, it is laid together with the ground, so that the line is written once.
-ghost use Rattle.std.specs.Prelude.{◌≡◌, true, false, ◌+◌, ◌*◌, ◌%◌, ◌<◌, ◌≤◌, ltb, length};
-ghost use Rattle.lists.specs.Choice.{both};
+ghost use Rattle.std.specs.Prelude.{◌≡◌, true, Some, ◌+◌, ◌*◌, ◌%◌, ◌<◌, ◌≤◌, length};
 ghost use Rattle.lists.specs.Tab.{each};
 ghost use Rattle.mix.specs.Pixel.{pixel_len};
-ghost use Rattle.span.specs.Span.{over_byte};
-ghost use Rattle.scanline.specs.Engine.Lines.{Pictured, FirstDrawn, OnRow, RowFlows, row_start, ground_byte};
-ghost use Rattle.scanline.specs.Engine.Lines.{whole_line, Shows, Draws, Flows, Lends, Over, OverTo};
+ghost use Rattle.scanline.specs.Engine.Lines.{Pictured, FirstDrawn, OnRow, OnPart, under_byte};
+ghost use Rattle.scanline.specs.Engine.Lines.{whole_line, Draws, LentBy, Over, OverTo};
 
-use crate::row::{draw_row, float_row, is_on_row, row_start};
-use mix::PIXEL_LEN;
+use crate::Painting;
+use crate::picture::lay_picture;
+use crate::row::{draw_row, is_on_row};
+use mix::{Ground, PIXEL_LEN};
 use plan::Step;
-use words::fields::Ground;
 
 // The ground of a run.
-pub fn lay_ground(out: &mut [u8], fresh: bool, ground: Ground)
+pub fn lay_ground(out: &mut [u8], ground: Option<Ground>)
     requires { length out.old % pixel_len ≡ 0 }
-    ensures { out.new ≡ each (ground_byte ground fresh) out.old }
+    ensures { out.new ≡ each (under_byte ground) out.old }
 {
-    if !fresh {
-        return;
+    if let Some(ground) = ground {
+        colours::fill(out, ground);
     }
-    colours::fill(out, ground.c0, ground.c1, ground.c2);
 }
 
-// One run over the background: at the layer's alpha, or each pixel at its own.
-fn over_ground(out: &mut [u8], run: &[u8], global: bool, alpha: u8, ground: Ground)
-    requires { (length out.old ≡ length run.now) × (length out.old % pixel_len ≡ 0) }
-    ensures { out.new ≡ each (over_byte run.now global alpha)
-        (each (ground_byte ground true) out.old) }
-{
-    span::lay_either(out, run, global, alpha, ground.c0, ground.c1, ground.c2);
-}
-
-// Line y of a frame layer that takes up the whole line, over the background.
-fn lay_picture(line: &mut [u8], pictures: &[u8], ground: Ground, step: Step, y: usize)
-    requires on_row { OnRow step y × (pixel_len * step.wide ≡ length line.old) × (step.layer.graphics ≡ false)
-        × (step.layer.floats ≡ false) }
-    requires wide_in_bounds { row_start step y + pixel_len * step.wide ≤ length pictures.now }
-    ensures { Over (Shows pictures.now) step y
-        (each (ground_byte ground true) line.old) line.new }
-{
-    let wide = PIXEL_LEN * step.wide;
-    let from = row_start(step, y);
-    over_ground(
-        line,
-        &pictures[from..from + wide],
-        step.layer.global,
-        step.alpha,
-        ground,
-    );
-}
-
-// The same of a float layer, with room for its row.
-fn lay_floats(line: &mut [u8], row: &mut [u8], floats: &[f32], ground: Ground, step: Step, y: usize)
-    requires on_row { OnRow step y × (pixel_len * step.wide ≡ length line.old) × (step.layer.graphics ≡ false)
-        × (step.layer.floats ≡ true) }
-    requires row_flows { RowFlows floats.now step y × (length line.old ≤ length row.old) }
-    ensures { Over (Flows floats.now) step y
-        (each (ground_byte ground true) line.old) line.new }
-{
-    let wide = PIXEL_LEN * step.wide;
-    float_row(&mut row[..wide], floats, step, y);
-    over_ground(line, &row[..wide], step.layer.global, step.alpha, ground);
-}
-
-// The same of a graphics layer, with room for its colour indexes: they go through a palette whose colours lie over the
-// background already. It is a function of its own, since with it `lay_layer` would be no part of the loop over the lines
-// any more, and each line would copy a step for it.
+// Line y of a graphics layer that takes up the whole line, over the background, with room for its colour indexes: they go
+// through a palette whose colours lie over the background already.
 fn lay_drawn(
     line: &mut [u8],
     indexes: &mut [u8],
-    tables: &[u8],
-    extents: &[u32],
-    under: &[u32; 16],
+    painting: &Painting,
     ground: Ground,
-    step: Step,
+    step: &Step,
     y: usize,
 )
-    requires on_row { OnRow step y × (pixel_len * step.wide ≡ length line.old) × (step.layer.graphics ≡ true) }
-    requires first_drawn { FirstDrawn (length line.old) indexes.old tables.now extents.now under.now ground step }
-    ensures { Over (Draws tables.now) step y
-        (each (ground_byte ground true) line.old) line.new }
+    requires on_row { OnRow step.now y × OnPart step.now (length line.old) × (step.now.layer.graphics ≡ true) }
+    requires first_drawn { FirstDrawn (length line.old) indexes.old painting.now.tables.now
+        painting.now.extents.now painting.now.under.now ground step.now }
+    ensures { Over (Draws painting.now.tables.now) step.now y
+        (each (under_byte (Some ground)) line.old) line.new }
 {
-    let v = y - (step.layer.y as usize);
-    let pixels = step.wide;
-    draw_row(&mut indexes[..pixels], tables, extents, step, 0, v);
-    colours::expand(&indexes[..pixels], under, line);
+    let v = y - usize::from(step.layer.y);
+    let drawn = &mut indexes[..step.wide];
+    draw_row(drawn, painting, step, 0, v);
+    colours::expand(drawn, painting.under, line);
 }
 
-// Any of them.
+// The same of any layer.
 fn lay_layer(
     line: &mut [u8],
     indexes: &mut [u8],
     row: &mut [u8],
-    tables: &[u8],
-    extents: &[u32],
-    under: &[u32; 16],
-    pictures: &[u8],
-    floats: &[f32],
+    painting: &Painting,
     ground: Ground,
-    step: Step,
+    step: &Step,
     y: usize,
 )
-    requires on_row { OnRow step y × (pixel_len * step.wide ≡ length line.old) × Pictured pictures.now floats.now step }
-    requires line_in_bounds { (step.layer.floats ≡ true → length line.old ≤ length row.old)
-        × (step.layer.graphics ≡ true
-        → FirstDrawn (length line.old) indexes.old tables.now extents.now under.now ground step) }
-    ensures { Over (Lends tables.now pictures.now floats.now) step y
-        (each (ground_byte ground true) line.old) line.new }
+    requires on_row { OnRow step.now y × OnPart step.now (length line.old)
+        × Pictured painting.now.pictures.now painting.now.floats.now step.now }
+    requires line_in_bounds { (step.now.layer.floats ≡ true → length line.old ≤ length row.old)
+        × (step.now.layer.graphics ≡ true → FirstDrawn (length line.old) indexes.old painting.now.tables.now
+        painting.now.extents.now painting.now.under.now ground step.now) }
+    ensures { Over (LentBy painting.now) step.now y (each (under_byte (Some ground)) line.old) line.new }
 {
     if step.layer.graphics {
-        lay_drawn(line, indexes, tables, extents, under, ground, step, y);
+        lay_drawn(line, indexes, painting, ground, step, y);
         return;
     }
-    if step.layer.floats {
-        lay_floats(line, row, floats, ground, step, y);
-        return;
-    }
-    lay_picture(line, pictures, ground, step, y);
+    lay_picture(line, row, painting, Some(ground), step, y);
 }
 
 // Whether a layer takes up the whole of line y, which has `pixels` pixels.
-fn is_whole_line(step: Step, pixels: usize, y: usize) -> bool
-    ensures { result ≡ whole_line step pixels y }
+fn is_whole_line(step: &Step, pixels: usize, y: usize) -> bool
+    ensures { result ≡ whole_line step.now pixels y }
 {
-    if step.wide != pixels {
-        return false;
-    }
-    is_on_row(step.layer, y)
-}
-
-// Whether the first of `count` layers is laid together with the ground of line y.
-fn is_laid_first(fresh: bool, count: usize, step: Step, pixels: usize, y: usize) -> bool
-    ensures { result ≡ both fresh (both (ltb 0 count) (whole_line step pixels y)) }
-{
-    if !fresh {
-        return false;
-    }
-    if count == 0 {
-        return false;
-    }
-    is_whole_line(step, pixels, y)
+    step.wide == pixels && is_on_row(&step.layer, y)
 }
 
 // The ground of line y, and with it the first of a plan's `count` layers where that takes up the whole line
@@ -150,30 +81,28 @@ pub fn lay_first(
     line: &mut [u8],
     indexes: &mut [u8],
     row: &mut [u8],
-    tables: &[u8],
-    extents: &[u32],
-    under: &[u32; 16],
-    pictures: &[u8],
-    floats: &[f32],
-    fresh: bool,
-    ground: Ground,
-    step: Step,
+    painting: &Painting,
+    step: &Step,
     count: usize,
     y: usize,
 ) -> usize
-    requires pixel_len_len { (length line.old % pixel_len ≡ 0) × (0 < count → Pictured pictures.now floats.now step)
-        × (0 < count → step.layer.floats ≡ true → length line.old ≤ length row.old) }
-    requires first_drawn { 0 < count → step.layer.graphics ≡ true
-        → FirstDrawn (length line.old) indexes.old tables.now extents.now under.now ground step }
-    ensures { OverTo (Lends tables.now pictures.now floats.now) step count result y
-        (each (ground_byte ground fresh) line.old) line.new }
+    requires pixel_len_len { (length line.old % pixel_len ≡ 0)
+        × (0 < count → Pictured painting.now.pictures.now painting.now.floats.now step.now)
+        × (0 < count → step.now.layer.floats ≡ true → length line.old ≤ length row.old) }
+    requires first_drawn { 0 < count → step.now.layer.graphics ≡ true → (g : Ground)
+        → painting.now.ground ≡ Some g → FirstDrawn (length line.old) indexes.old painting.now.tables.now
+        painting.now.extents.now painting.now.under.now g step.now }
+    ensures laid { OverTo (LentBy painting.now) step.now count result y
+        (each (under_byte painting.now.ground) line.old) line.new }
+    ensures few { result ≤ count }
 {
-    if is_laid_first(fresh, count, step, line.len() / PIXEL_LEN, y) {
-        lay_layer(
-            line, indexes, row, tables, extents, under, pictures, floats, ground, step, y,
-        );
+    let Some(ground) = painting.ground else {
+        return 0;
+    };
+    if 0 < count && is_whole_line(step, line.len() / PIXEL_LEN, y) {
+        lay_layer(line, indexes, row, painting, ground, step, y);
         return 1;
     }
-    lay_ground(line, fresh, ground);
+    lay_ground(line, Some(ground));
     0
 }

@@ -6,6 +6,8 @@ ghost use Rattle.frames.specs.Pixel.{spans};
 ghost use Rattle.scanline.specs.Engine.Lines.{Banked, Extended, OnRow, RowFlows, row_start, drawn_indexes};
 ghost use Rattle.scanline.specs.Engine.Lines.{Flows, RowMade};
 
+use crate::Painting;
+use draw::banks::Banks;
 use mix::PIXEL_LEN;
 use pen::draw_line;
 use plan::Step;
@@ -14,52 +16,49 @@ use tables::{INSTRUCTION_COUNT, LIST_LEN, STRINGS_LEN, font_len};
 use words::fields::Layer;
 
 // Whether a layer reaches line y.
-pub fn is_on_row(layer: Layer, y: usize) -> bool
-    ensures { result ≡ spans layer.y layer.height y }
+pub fn is_on_row(layer: &Layer, y: usize) -> bool
+    ensures { result ≡ spans layer.now.y layer.now.height y }
 {
-    let top = layer.y as usize;
-    if y < top {
-        return false;
-    }
-    y < top + (layer.height as usize)
+    let top = usize::from(layer.y);
+    top <= y && y < top + usize::from(layer.height)
 }
 
 // Where line y of a frame layer begins in its buffer.
-pub fn row_start(step: Step, y: usize) -> usize
-    requires { OnRow step y × (row_start step y < 18446744073709551616) }
-    ensures { result ≡ row_start step y }
+pub fn row_start(step: &Step, y: usize) -> usize
+    requires { OnRow step.now y × (row_start step.now y < 18446744073709551616) }
+    ensures { result ≡ row_start step.now y }
 {
-    let v = y - (step.layer.y as usize);
-    step.start + PIXEL_LEN * (v * (step.layer.width as usize))
+    let v = y - usize::from(step.layer.y);
+    step.start + PIXEL_LEN * (v * usize::from(step.layer.width))
 }
 
 // Row v of a graphics layer as colour indexes. The spans of its instructions begin at `at`.
-pub fn draw_row(indexes: &mut [u8], tables: &[u8], extents: &[u32], step: Step, at: usize, v: usize)
-    requires { Banked tables.now step × Extended tables.now extents.now at step }
-    ensures { indexes.new ≡ drawn_indexes tables.now step v (length indexes.old) }
+pub fn draw_row(indexes: &mut [u8], painting: &Painting, step: &Step, at: usize, v: usize)
+    requires { Banked painting.now.tables.now step.now
+        × Extended painting.now.tables.now painting.now.extents.now at step.now }
+    ensures { indexes.new ≡ drawn_indexes painting.now.tables.now step.now v (length indexes.old) }
 {
+    let tables = painting.tables;
     let list = step.list;
     let strings = step.strings;
     let font = step.font;
-    let bits = step.bits as usize;
-    let font_end = font + font_len(bits);
-    draw_line(
-        indexes,
+    let bits = usize::from(step.bits);
+    let banks = Banks {
         bits,
-        &tables[list..list + LIST_LEN],
-        &tables[strings..strings + STRINGS_LEN],
-        &tables[font..font_end],
-        &extents[at..at + INSTRUCTION_COUNT],
-        step.end.count,
-        v,
-    );
+        list: &tables[list..list + LIST_LEN],
+        strings: &tables[strings..strings + STRINGS_LEN],
+        font: &tables[font..font + font_len(bits)],
+    };
+    let spans = &painting.extents[at..at + INSTRUCTION_COUNT];
+    draw_line(indexes, &banks, spans, step.end.count, v);
 }
 
 // Line y of a float layer as bytes.
-pub fn float_row(row: &mut [u8], floats: &[f32], step: Step, y: usize)
-    requires on_row { OnRow step y × (length row.old ≡ pixel_len * step.wide) × RowFlows floats.now step y }
-    requires graphics_value { (step.layer.graphics ≡ false) × (step.layer.floats ≡ true) }
-    ensures { RowMade (Flows floats.now) step y row.new }
+pub fn float_row(row: &mut [u8], floats: &[f32], step: &Step, y: usize)
+    requires on_row { OnRow step.now y × (length row.old ≡ pixel_len * step.now.wide)
+        × RowFlows floats.now step.now y }
+    requires graphics_value { (step.now.layer.graphics ≡ false) × (step.now.layer.floats ≡ true) }
+    ensures { RowMade (Flows floats.now) step.now y row.new }
 {
     let wide = PIXEL_LEN * step.wide;
     let from = row_start(step, y);

@@ -4,15 +4,15 @@
 #![tactic(auto)]
 
 ghost use Rattle.std.specs.Prelude.{◌≡◌, ◌+◌, ◌≤◌, ◌<◌, length, drop, IfOk, OnOk, OnErr};
-ghost use Rattle.std.specs.Io.{ReadsAtMost};
 ghost use Rattle.display.specs.Reached.{Arranged};
-ghost use Rattle.lines.specs.Sizes.{most_kept, out_len};
+ghost use Rattle.lines.specs.Sizes.{out_len};
 ghost use Rattle.lines.specs.Sheet.{first_tables};
 ghost use Rattle.lines.specs.Blocks.{feed_of};
 ghost use Rattle.lines.specs.Calls.{block_of};
 ghost use Rattle.sheet.specs.Failed.{LeftBySome};
 
 use lines::{Going, MOST_KEPT, OUT_LEN};
+use numbers::filled;
 use std::io::{self, Read};
 
 // A sheet is read in blocks of so many bytes.
@@ -24,13 +24,6 @@ struct Place {
     going: Going,
     // How many of its bytes are used up.
     used: usize,
-}
-
-// What is printed: the first n bytes.
-fn write_front(rt: &impl Print, out: &[u8], n: usize) -> io::Result<()>
-    requires { (length out.now ≡ out_len) × (n ≤ out_len) }
-{
-    rt.write_all(&out[..n])
 }
 
 // One call on the bytes of a block that are left; what it prints is written. The tables and the text are
@@ -54,13 +47,11 @@ fn step(
         ≡ (feed_of c.going tables.old text.old (drop c.used block.now)).text }
     ensures used_lt_used { IfOk result (λ p. (c.used < p.used) × (p.used ≤ length block.now)) }
 {
-    let used = c.used;
-    let fed = lines::feed(c.going, tables, text, &block[used..], out);
-    write_front(rt, out, fed.count)?;
-    let going = fed.going;
+    let fed = lines::feed(c.going, tables, text, &block[c.used..], out);
+    rt.write_all(&out[..fed.count])?;
     Ok(Place {
-        going,
-        used: used + fed.used,
+        going: fed.going,
+        used: c.used + fed.used,
     })
 }
 
@@ -101,14 +92,7 @@ fn finish(
     requires { Arranged going.state }
 {
     let r = lines::finish(going, tables, text, out);
-    write_front(rt, out, r.count)
-}
-
-// One block: how many bytes came, 0 at the end.
-fn read(input: &mut impl Read, block: &mut [u8]) -> io::Result<usize>
-    ensures { ReadsAtMost result block.new }
-{
-    input.read(block)
+    rt.write_all(&out[..r.count])
 }
 
 // Nothing says that the input ends, so the loop takes no more turns than a number that no run uses up.
@@ -124,7 +108,7 @@ fn run<R: Input + Print>(
     let mut input = rt.reader();
     let mut going = lines::begin();
     for _ in 0..u64::MAX {
-        let came = read(&mut input, block)?;
+        let came = input.read(block)?;
         if came == 0 {
             break;
         }
@@ -133,36 +117,18 @@ fn run<R: Input + Print>(
     finish(rt, going, tables, text, out)
 }
 
-// Arrays are made by functions that name their zeros or their length, so that no proof writes them
-// out.
+// The lent table buffer, in the form that the rules of the project name, and not by `filled`. By itself, so that no
+// proof of a caller writes its zeros out.
 fn no_tables() -> [u8; 29696]
     ensures { (29696 ≡ length result) × (result ≡ first_tables) }
 {
     [0; 29696]
 }
 
-fn no_text() -> [u8; MOST_KEPT]
-    ensures { most_kept ≡ length result }
-{
-    [0; MOST_KEPT]
-}
-
-fn no_block() -> [u8; BLOCK_LEN]
-    ensures { 65536 ≡ length result }
-{
-    [0; BLOCK_LEN]
-}
-
-fn no_output() -> [u8; OUT_LEN]
-    ensures { out_len ≡ length result }
-{
-    [0; OUT_LEN]
-}
-
 fn main(rt: HostRuntime) -> io::Result<()> {
     let mut tables = no_tables();
-    let mut text = no_text();
-    let mut block = no_block();
-    let mut out = no_output();
+    let mut text: [u8; MOST_KEPT] = filled(0);
+    let mut block: [u8; BLOCK_LEN] = filled(0);
+    let mut out: [u8; OUT_LEN] = filled(0);
     run(&rt, &mut tables, &mut text, &mut block, &mut out)
 }

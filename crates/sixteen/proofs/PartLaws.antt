@@ -2,7 +2,7 @@
 use mathlib.Core.Path.{◌≡◌, refl, sym, ap, ◌∙◌}
 use mathlib.Core.Logic.{⊎_elim}
 use mathlib.Core.List.{List}
-use Prim.Native.Nat.{ℕ, ◌+◌, ◌-◌, ◌%◌, ◌≤◌, ◌<◌}
+use Prim.Native.Nat.{ℕ, ◌+◌, ◌-◌, ◌*◌, ◌/◌, ◌%◌, ◌≤◌, ◌<◌}
 use native.Mathlib.Omega.{arith}
 use lib.ListN.{length, get_or, set, length-set}
 use lib.Seq.{get_or-set_same, get_or-set_other, ext_get_or}
@@ -108,15 +108,17 @@ module _ {l l₀ : List ℕ} {g : ℕ → ℕ → ℕ} {a i n : ℕ} (p : Reach 
   pub block-turn : {r : List ℕ} → 64 ≤ n - i → Part r l g i (i + 64) → Reach r l₀ g a (i + 64)
   block-turn h q = reach-turn p q (omega arith) (omega arith) (omega (arith, p.border))
 
-  pub pixel-turn : {r : List ℕ} → length l₀ % 4 ≡ 0 → i < n → Part r l g i (i + 4) → Reach r l₀ g a (i + 4)
-  pixel-turn m h q = reach-turn p q (omega arith) (omega (arith, p.border)) (omega (arith, p.border))
+-- as a loop has it that counts the blocks or the pixels of a length n
+module _ {l l₀ : List ℕ} {g : ℕ → ℕ → ℕ} {a k n : ℕ} where
+  pub blocks-turn : {r : List ℕ} → Reach l l₀ g a (64 * k) → length l₀ ≡ n → k < n / 64
+      → Part r l g (64 * k) (64 * k + 64) → Reach r l₀ g a (64 * (k + 1))
+  blocks-turn p e h q =
+      reach-turn p (part-to q (omega arith)) (omega arith) (omega arith) (omega arith)
 
-  pub reach-end : n ≤ i → Part l l₀ g a (length l₀)
-  reach-end h = part-to p.part (omega (arith, p.most))
-
--- n is the length of what the run has become so far
-pub reach-long : {l l₀ : List ℕ} {g : ℕ → ℕ → ℕ} {a i : ℕ} → Reach l l₀ g a i → length l₀ ≡ length l
-reach-long p = sym p.part.long
+  pub pixels-turn : {r : List ℕ} → Reach l l₀ g a (4 * k) → length l₀ ≡ n → k < n / 4
+      → Part r l g (4 * k) (4 * k + 4) → Reach r l₀ g a (4 * (k + 1))
+  pixels-turn p e h q =
+      reach-turn p (part-to q (omega arith)) (omega arith) (omega arith) (omega arith)
 
 -- ---- a whole run: its front, and then what is left of it
 

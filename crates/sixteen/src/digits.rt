@@ -1,6 +1,6 @@
-// Bytes and words in one another. By division and remainder, which compile to the same shifts and
-// masks and are proved with no file. A word made of parts is said by its digits and not as a sum,
-// so that no caller has to know that a byte is small.
+// Bytes and words in one another: bytes by the library's methods, what is no byte by division and remainder, which
+// compile to the same shifts and masks. A word made of parts is said by its digits and not as a sum, so that no caller
+// has to know that a byte is small.
 ghost use Rattle.std.specs.Prelude.{◌≡◌, ◌+◌, ◌*◌, ◌/◌, ◌%◌, ◌≤◌, ◌<◌};
 ghost use Rattle.sixteen.specs.Engine.Lanes.{Bytes};
 
@@ -19,13 +19,13 @@ pub fn high(x: u16) -> u16
 pub fn low_byte(x: u16) -> u8
     ensures { result ≡ x % 256 }
 {
-    (x % 256) as u8
+    x.to_le_bytes()[0]
 }
 
 pub fn high_byte(x: u16) -> u8
     ensures { result ≡ x / 256 }
 {
-    (x / 256) as u8
+    x.to_le_bytes()[1]
 }
 
 pub fn low_word(x: u32) -> u16
@@ -43,7 +43,7 @@ pub fn high_word(x: u32) -> u16
 pub fn word_of(low: u8, high: u8) -> u16
     ensures { (result % 256 ≡ low) × (result / 256 ≡ high) }
 {
-    (low as u16) + (high as u16) * 256
+    u16::from_le_bytes([low, high])
 }
 
 pub fn join(low: u16, high: u16) -> u16
@@ -57,7 +57,7 @@ pub fn join(low: u16, high: u16) -> u16
 pub fn pixel_of(c0: u8, c1: u8, c2: u8, alpha: u8) -> u32
     ensures { Bytes result c0 c1 c2 alpha }
 {
-    (c0 as u32) + (c1 as u32) * 256 + (c2 as u32) * 65536 + (alpha as u32) * 16777216
+    u32::from_le_bytes([c0, c1, c2, alpha])
 }
 
 pub fn pair(low: u32, high: u32) -> u64
@@ -98,23 +98,23 @@ pub fn pixel_at(pixel: u32, alpha: u8) -> u32
 pub fn byte0(pixel: u32) -> u8
     ensures { result ≡ pixel % 256 }
 {
-    (pixel % 256) as u8
+    pixel.to_le_bytes()[0]
 }
 
 pub fn byte1(pixel: u32) -> u8
     ensures { result ≡ pixel / 256 % 256 }
 {
-    (pixel / 256 % 256) as u8
+    pixel.to_le_bytes()[1]
 }
 
 pub fn byte2(pixel: u32) -> u8
     ensures { result ≡ pixel / 65536 % 256 }
 {
-    (pixel / 65536 % 256) as u8
+    pixel.to_le_bytes()[2]
 }
 
 pub fn byte3(pixel: u32) -> u8
     ensures { result ≡ pixel / 16777216 }
 {
-    (pixel / 16777216) as u8
+    pixel.to_le_bytes()[3]
 }

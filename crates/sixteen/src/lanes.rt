@@ -34,10 +34,8 @@ pub fn words(s: &[u8], at: usize) -> [u16; 32]
     ensures { Lanes result 32 (WordIs s.now at) }
 {
     let mut w = [0u16; 32];
-    let mut k = 0;
-    while k < 32 {
+    for k in 0..32 {
         w[k] = word_of(s[at + 2 * k], s[at + 2 * k + 1]);
-        k = k + 1;
     }
     w
 }
@@ -47,11 +45,9 @@ pub fn own_alphas(over: [u16; 32]) -> [u16; 32]
     ensures { Lanes result 32 (HighIs over) }
 {
     let mut w = [0u16; 32];
-    let mut k = 0;
-    while k < 16 {
+    for k in 0..16 {
         w[2 * k] = high(over[2 * k + 1]);
         w[2 * k + 1] = high(over[2 * k + 1]);
-        k = k + 1;
     }
     w
 }
@@ -60,13 +56,7 @@ pub fn own_alphas(over: [u16; 32]) -> [u16; 32]
 pub fn one_alpha(a: u16) -> [u16; 32]
     ensures { Lanes result 32 (SameIs a) }
 {
-    let mut w = [0u16; 32];
-    let mut k = 0;
-    while k < 32 {
-        w[k] = a;
-        k = k + 1;
-    }
-    w
+    [a; 32]
 }
 
 // Each word over the one under it, at its alpha.
@@ -75,10 +65,8 @@ pub fn mixed(alphas: [u16; 32], over: [u16; 32], under: [u16; 32]) -> [u16; 32]
     ensures { Lanes result 32 (MixIs alphas over under) }
 {
     let mut w = [0u16; 32];
-    let mut k = 0;
-    while k < 32 {
+    for k in 0..32 {
         w[k] = mixed_word(alphas[k], over[k], under[k], k);
-        k = k + 1;
     }
     w
 }
@@ -88,10 +76,8 @@ pub fn store(out: &mut [u8], at: usize, w: [u16; 32])
     requires { at + block_len ≤ length out.old }
     ensures { Part out.new out.old (anew (store_byte w at)) at (at + block_len) }
 {
-    let mut k = 0;
-    while k < 32 {
+    for k in 0..32 {
         out[at + 2 * k] = low_byte(w[k]);
         out[at + 2 * k + 1] = high_byte(w[k]);
-        k = k + 1;
     }
 }

@@ -13,15 +13,13 @@ pub fn pixels(s: &[u8], at: usize) -> [u32; 16]
     ensures { Lanes result 16 (PixelIs s.now at) }
 {
     let mut w = [0u32; 16];
-    let mut k = 0;
-    while k < 16 {
+    for k in 0..16 {
         w[k] = pixel_of(
             s[at + PIXEL_LEN * k],
             s[at + PIXEL_LEN * k + 1],
             s[at + PIXEL_LEN * k + 2],
             s[at + PIXEL_LEN * k + 3],
         );
-        k = k + 1;
     }
     w
 }
@@ -32,10 +30,8 @@ pub fn all_clear(p: [u32; 16]) -> bool
     ensures { result ≡ true → Lanes p 16 (HasAlpha 0) }
 {
     let mut any = 0u32;
-    let mut k = 0;
-    while k < 16 {
-        any = either(any, p[k]);
-        k = k + 1;
+    for x in &p {
+        any = either(any, *x);
     }
     any < 16777216
 }
@@ -45,10 +41,8 @@ pub fn all_opaque(p: [u32; 16]) -> bool
     ensures { result ≡ true → Lanes p 16 (HasAlpha 255) }
 {
     let mut all = 4294967295u32;
-    let mut k = 0;
-    while k < 16 {
-        all = common(all, p[k]);
-        k = k + 1;
+    for x in &p {
+        all = common(all, *x);
     }
     4278190080 <= all
 }
@@ -58,10 +52,8 @@ pub fn joined(p: [u32; 16], q: [u32; 16]) -> [u32; 16]
     ensures { Lanes result 16 (JoinIs p q) }
 {
     let mut w = [0u32; 16];
-    let mut k = 0;
-    while k < 16 {
+    for k in 0..16 {
         w[k] = channels_with(p[k], q[k]);
-        k = k + 1;
     }
     w
 }
@@ -70,13 +62,7 @@ pub fn joined(p: [u32; 16], q: [u32; 16]) -> [u32; 16]
 pub fn repeated(c: u32) -> [u32; 16]
     ensures { Lanes result 16 (SameIs c) }
 {
-    let mut w = [0u32; 16];
-    let mut k = 0;
-    while k < 16 {
-        w[k] = c;
-        k = k + 1;
-    }
-    w
+    [c; 16]
 }
 
 // The same block as words of two bytes.
@@ -84,11 +70,9 @@ pub fn halves(p: [u32; 16]) -> [u16; 32]
     ensures { Lanes result 32 (HalfIs p) }
 {
     let mut w = [0u16; 32];
-    let mut k = 0;
-    while k < 16 {
+    for k in 0..16 {
         w[2 * k] = low_word(p[k]);
         w[2 * k + 1] = high_word(p[k]);
-        k = k + 1;
     }
     w
 }

@@ -5,7 +5,6 @@ use mathlib.Core.Bool.{false}
 use mathlib.Core.Logic.{⊎_elim}
 use mathlib.Core.List.{List}
 use Prim.Native.Nat.{ℕ, ◌+◌, ◌-◌, ◌*◌, ◌/◌, ◌%◌, ◌≤◌, ◌<◌}
-use native.Mathlib.Nat.{not-suc-le-zero}
 use native.Mathlib.Omega.{arith}
 use lib.ListN.{length, get_or}
 use Rattle.lists.proofs.Choice.{split}
@@ -16,9 +15,6 @@ use Rattle.span.specs.Engine.Laid.{lay_byte, Opaque, OpaqueAt}
 use Rattle.span.proofs.GroundLaws.{lay-turn, lay-copied}
 
 -- ---- pixels of one alpha
-
-pub alpha-none : (s : List ℕ) (at a : ℕ) → AllAlpha s at 0 a
-alpha-none s at a = record { all = λ k h. absurd (not-suc-le-zero h) }
 
 -- n more from b on, together k
 pub alpha-then : {s : List ℕ} {at m n a : ℕ} (b k : ℕ) → AllAlpha s at m a → AllAlpha s b n a → b ≡ at + 4 * m
@@ -31,16 +27,6 @@ alpha-then {s} {at} {m} b k p q e f = record {
       ap (λ (i : ℕ). get_or s i 0) z ∙ q.all (j - m) (omega arith))
       (split j m);
 }
-
--- a pixel more, as a loop has it
-pub alpha-next : (s : List ℕ) (from i : ℕ) → from ≤ i → from % 4 ≡ 0 → i % 4 ≡ 0 → AllAlpha s from ((i - from) / 4) 255
-    → get_or s (i + 3) 0 ≡ 255 → AllAlpha s from ((i + 4 - from) / 4) 255
-alpha-next s from i h f m p e =
-    alpha-then i _ p
-    (record {
-      all = λ k (lt : k < 1). let z : i + 4 * k + 3 ≡ i + 3 = omega arith in ap (λ (j : ℕ). get_or s j 0) z ∙ e;
-    })
-    (omega arith) (omega arith)
 
 -- a front, and then the others
 pub opaque-all : (s : List ℕ) (i : ℕ) → i ≤ length s → i % 4 ≡ 0 → length s % 4 ≡ 0 → AllAlpha s 0 (i / 4) 255

@@ -18,7 +18,7 @@ use Rattle.sixteen.specs.Engine.Lanes.{Part, Reach, Front, Lanes, anew, WordIs, 
 use Rattle.sixteen.specs.Engine.Lanes.{HalfIs, JoinIs, AllAlpha, store_byte}
 use Rattle.span.specs.Span.{over_byte}
 use Rattle.span.specs.Engine.Laid.{Copied, Onward}
-use Rattle.sixteen.proofs.PartLaws.{part_none, part-set, part-skip, part-cong, reach-none, reach-turn, block-turn, pixel-turn}
+use Rattle.sixteen.proofs.PartLaws.{part_none, part-set, part-skip, part-cong, reach-none, reach-turn, block-turn, pixels-turn}
 use Rattle.sixteen.proofs.PartLaws.{front-each}
 use Rattle.sixteen.proofs.LaneLaws.{lanes-map, by_parity-even, by_parity-odd, store_byte-even, store_byte-odd, by-words}
 use Rattle.colours.proofs.PixelLaws.{halves-byte, word_byte-is, pixel_byte-is, join-bytes}
@@ -177,8 +177,17 @@ pub own_turn : (over : List ℕ) {r l l₀ : List ℕ} {b i : ℕ} → Reach l l
     → length l₀ ≡ length over → length l₀ % 4 ≡ 0 → i < length over
     → Part r l (over_byte over true (get_or over (i + 3) 0)) i (i + 4) → Reach r l₀ (over_byte over false 0) b (i + 4)
 own_turn over {i = i} p e m h q =
-    pixel-turn p e m h (own-part over i 1 (get_or over (i + 3) 0) p.border
-    (record { all = λ k lt. ap (λ (n : ℕ). get_or over n 0) (let z : i + 4 * k + 3 ≡ i + 3 = omega arith in z) }) q)
+    reach-turn p (own-part over i 1 (get_or over (i + 3) 0) p.border
+    (record { all = λ k lt. ap (λ (n : ℕ). get_or over n 0) (let z : i + 4 * k + 3 ≡ i + 3 = omega arith in z) }) q) (omega arith) (omega (arith, p.border)) (omega (arith, p.border))
+
+-- the same, as a loop has it that counts the pixels
+pub own-next : (over : List ℕ) {r l l₀ : List ℕ} {b k : ℕ} → Reach l l₀ (over_byte over false 0) b (4 * k)
+    → length l₀ ≡ length over → k < length over / 4
+    → Part r l (over_byte over true (get_or over (4 * k + 3) 0)) (4 * k) (4 * k + 4)
+    → Reach r l₀ (over_byte over false 0) b (4 * (k + 1))
+own-next over {k = k} p e h q =
+    pixels-turn p e h (own-part over (4 * k) 1 (get_or over (4 * k + 3) 0) p.border
+    (record { all = λ j lt. ap (λ (n : ℕ). get_or over n 0) (let z : 4 * k + 4 * j + 3 ≡ 4 * k + 3 = omega arith in z) }) q)
 
 -- a run at the alpha 255
 pub opaque-each : (over : List ℕ) (alpha : ℕ) {r l l₀ : List ℕ} {b : ℕ} → alpha ≡ 255

@@ -21,7 +21,7 @@ use Rattle.span.specs.Span.{over_byte}
 use Rattle.span.specs.Engine.Laid.{Onward}
 use Rattle.span.specs.Engine.Tints.{tint_byte, Blocks, AllSame, ColourIs, AlphaIs, Shown, Grounded}
 use Rattle.sixteen.proofs.PartLaws.{part_none, part-skip, part-cong, part-to, reach-none, reach-turn, front-each}
-use Rattle.sixteen.proofs.LaneLaws.{Filled, filled-turn, store_byte-even, store_byte-odd}
+use Rattle.sixteen.proofs.LaneLaws.{store_byte-even, store_byte-odd}
 use Rattle.colours.proofs.RowLaws.{by_place, pixel_byte-at, pixel_byte-same}
 use Rattle.colours.proofs.PixelLaws.{halves-byte}
 use Rattle.span.proofs.OverParts.{alphas-own, mix-block, copy-block, pixel-part}
@@ -93,24 +93,25 @@ module _ (out : List ℕ) (c at : ℕ) (h : at % 4 ≡ 0) where
       part-cong (copy-block out row at h (ground-pixels c at h ep) eq ew eh q)
       (λ i h1 h2. tint-row c true 255 (at + 64) i (get_or out i 0) (omega arith) h2 ∙ tint-own c 255 i (get_or out i 0) e)
 
--- one more, as a loop has it that goes from a up to b
-pub tint-room : {n a b i : ℕ} → Blocks n a b → a ≤ i → (i - a) % 64 ≡ 0 → i < b → i + 64 ≤ b
-tint-room k h m lt = omega (arith, k.blocks, k.least)
-
-module _ (c : ℕ) {l₀ l : List ℕ} {a b i : ℕ} (k : Blocks (length l₀) a b) (p : Reach l l₀ (tint_byte c false 0) a i)
-    (m : (i - a) % 64 ≡ 0) (lt : i < b) where
-  more : (r : List ℕ) → Part r l (tint_byte c false 0) i (i + 64) → Reach r l₀ (tint_byte c false 0) a (i + 64)
-  more r q = reach-turn p q (omega arith) (omega (arith, tint-room k p.least m lt, k.most)) (omega (arith, p.border))
+-- one more, as a loop has it that counts them
+module _ (c : ℕ) {l₀ l : List ℕ} {a b k : ℕ} (s : Blocks (length l₀) a b)
+    (p : Reach l l₀ (tint_byte c false 0) a (a + 64 * k)) (lt : k < (b - a) / 64) where
+  more : (r : List ℕ) → Part r l (tint_byte c false 0) (a + 64 * k) (a + 64 * k + 64)
+      → Reach r l₀ (tint_byte c false 0) a (a + 64 * (k + 1))
+  more r q =
+      reach-turn p (part-to q (omega arith)) (omega arith) (omega (arith, s.least, s.most)) (omega (arith, s.border))
 
   pub mix-more : {r pw o al u w : List ℕ} → Lanes pw 16 (SameIs c) → Lanes o 32 (HalfIs pw) → Lanes al 32 (HighIs o)
-      → Lanes u 32 (WordIs l i) → Lanes w 32 (MixIs al o u) → Part r l (anew (store_byte w i)) i (i + 64)
-      → Reach r l₀ (tint_byte c false 0) a (i + 64)
-  mix-more ep eo ea eu ew q = more _ (mix-tint l c i p.border ep eo ea eu ew q)
+      → Lanes u 32 (WordIs l (a + 64 * k)) → Lanes w 32 (MixIs al o u)
+      → Part r l (anew (store_byte w (a + 64 * k))) (a + 64 * k) (a + 64 * k + 64)
+      → Reach r l₀ (tint_byte c false 0) a (a + 64 * (k + 1))
+  mix-more ep eo ea eu ew q = more _ (mix-tint l c (a + 64 * k) p.border ep eo ea eu ew q)
 
-  pub put-more : {r pw qw w hw : List ℕ} → c / 16777216 ≡ 255 → Lanes pw 16 (SameIs c) → Lanes qw 16 (PixelIs l i)
-      → Lanes w 16 (JoinIs pw qw) → Lanes hw 32 (HalfIs w) → Part r l (anew (store_byte hw i)) i (i + 64)
-      → Reach r l₀ (tint_byte c false 0) a (i + 64)
-  put-more e ep eq ew eh q = more _ (put-tint l c i p.border e ep eq ew eh q)
+  pub put-more : {r pw qw w hw : List ℕ} → c / 16777216 ≡ 255 → Lanes pw 16 (SameIs c)
+      → Lanes qw 16 (PixelIs l (a + 64 * k)) → Lanes w 16 (JoinIs pw qw) → Lanes hw 32 (HalfIs w)
+      → Part r l (anew (store_byte hw (a + 64 * k))) (a + 64 * k) (a + 64 * k + 64)
+      → Reach r l₀ (tint_byte c false 0) a (a + 64 * (k + 1))
+  put-more e ep eq ew eh q = more _ (put-tint l c (a + 64 * k) p.border e ep eq ew eh q)
 
 pub clear-tint : (out : List ℕ) (c : ℕ) {n a b : ℕ} → Blocks n a b → c / 16777216 ≡ 0 → Part out out (tint_byte c false 0) a b
 clear-tint out c {a = a} {b} k e =
@@ -146,11 +147,6 @@ tint-over line palette g a i p lt =
     tint-is c g a (colour_row line palette) i p
     (get_d-tab (4 * length line) (colour_byte line palette) (4 * (i / 4) + 3) (omega arith) ∙ rw q (word-alpha c i))
     (get_d-tab (4 * length line) (colour_byte line palette) i lt)
-
--- sixteen of its indexes
-pub colour-lane : {line palette w : List ℕ} {j k x : ℕ} → Filled w 16 k (ColourIs line palette j) → k < 16
-    → x ≡ get_or line (j + k) 0 % 16 → Filled (set w k (get_or palette x 0)) 16 (k + 1) (ColourIs line palette j)
-colour-lane {palette = palette} e lt q = filled-turn e lt (record { is = ap (λ (n : ℕ). get_or palette n 0) q })
 
 module _ (line palette : List ℕ) (j : ℕ) (room : j + 16 ≤ length line) where
   abbrev indexed : List ℕ

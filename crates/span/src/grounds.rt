@@ -7,9 +7,8 @@ ghost use Rattle.colours.specs.Rows.{word_byte, solid_byte};
 ghost use Rattle.span.specs.Engine.Laid.{lay_byte, Onward, OpaqueAt};
 
 use super::runs::is_mixed_at;
-use colours::repeat16;
-use mix::{ALPHA_PLACE, OPAQUE};
-use sixteen::digits::pixel_of;
+use colours::{repeat16, solid_pixel};
+use mix::{ALPHA_PLACE, Ground, OPAQUE};
 use sixteen::lanes::{mixed, one_alpha, own_alphas, store, words};
 use sixteen::pixels::{all_clear, all_opaque, halves, joined, pixels, repeated};
 use sixteen::sizes::BLOCK_LEN;
@@ -26,7 +25,8 @@ pub fn is_opaque_at(over: &[u8], i: usize) -> bool
     all_opaque(p)
 }
 
-// The opaque block at `from` and those after it over the pixel c, answering where they end.
+// The opaque block at `from` and those after it over the pixel c, answering where they end. The first one is known, so
+// the test stands at the end.
 fn lay_opaque(out: &mut [u8], over: &[u8], c: u32, from: usize) -> usize
     requires { (length out.old ≡ length over.now) × (from % pixel_len ≡ 0) × OpaqueAt over.now from }
     ensures { Onward out.new out.old
@@ -48,7 +48,7 @@ fn lay_opaque(out: &mut [u8], over: &[u8], c: u32, from: usize) -> usize
 }
 
 // The block at `from` and those after it over the pixel c, up to one whose first pixel is clear or opaque,
-// answering where they end.
+// answering where they end. The test stands at the end here too.
 fn lay_mixed(out: &mut [u8], over: &[u8], c: u32, from: usize) -> usize
     requires { (length out.old ≡ length over.now) × (from + block_len ≤ length out.old) × (from % pixel_len ≡ 0) }
     ensures { Onward out.new out.old
@@ -90,13 +90,13 @@ fn lay_turn(out: &mut [u8], over: &[u8], c: u32, i: usize) -> usize
     lay_mixed(out, over, c, i)
 }
 
-// The blocks, each pixel at its own alpha, answering where they end.
-pub fn lay_blocks(out: &mut [u8], over: &[u8], c0: u8, c1: u8, c2: u8) -> usize
+// The blocks, each pixel at its own alpha, answering where they end. A turn does one or more, so they are not counted.
+pub fn lay_blocks(out: &mut [u8], over: &[u8], ground: Ground) -> usize
     requires { length out.old ≡ length over.now }
     ensures { Front out.new out.old
-        (anew (lay_byte over.now false 0 (solid_byte c0 c1 c2))) result }
+        (anew (lay_byte over.now false 0 (solid_byte ground.c0 ground.c1 ground.c2))) result }
 {
-    let c = pixel_of(c0, c1, c2, OPAQUE);
+    let c = solid_pixel(ground);
     let mut i = 0;
     while BLOCK_LEN <= over.len() - i {
         i = lay_turn(out, over, c, i);
@@ -120,16 +120,15 @@ fn lay_flat16(out: &mut [u8], over: &[u8], c: u32, alpha: u8, i: usize)
 }
 
 // The blocks, all pixels at one alpha.
-pub fn lay_flat_blocks(out: &mut [u8], over: &[u8], alpha: u8, c0: u8, c1: u8, c2: u8) -> usize
+pub fn lay_flat_blocks(out: &mut [u8], over: &[u8], alpha: u8, ground: Ground) -> usize
     requires { length out.old ≡ length over.now }
     ensures { Front out.new out.old
-        (anew (lay_byte over.now true alpha (solid_byte c0 c1 c2))) result }
+        (anew (lay_byte over.now true alpha (solid_byte ground.c0 ground.c1 ground.c2))) result }
 {
-    let c = pixel_of(c0, c1, c2, OPAQUE);
-    let mut i = 0;
-    while BLOCK_LEN <= over.len() - i {
-        lay_flat16(out, over, c, alpha, i);
-        i = i + BLOCK_LEN;
+    let c = solid_pixel(ground);
+    let blocks = over.len() / BLOCK_LEN;
+    for k in 0..blocks {
+        lay_flat16(out, over, c, alpha, BLOCK_LEN * k);
     }
-    i
+    BLOCK_LEN * blocks
 }

@@ -7,8 +7,8 @@ ghost use Rattle.colours.specs.Rows.{solid_byte};
 ghost use Rattle.span.specs.Engine.Laid.{lay_byte};
 
 use super::grounds::is_opaque_at;
-use mix::{ALPHA_PLACE, OPAQUE, PIXEL_LEN};
-use sixteen::digits::pixel_of;
+use colours::solid_pixel;
+use mix::{ALPHA_PLACE, Ground, OPAQUE, PIXEL_LEN};
 use sixteen::lanes::store;
 use sixteen::pixels::{halves, joined, pixels, repeated};
 use sixteen::sizes::BLOCK_LEN;
@@ -26,13 +26,13 @@ pub fn is_opaque_at_ends(over: &[u8]) -> bool {
 }
 
 // The blocks up to one that is not opaque, over a row of one colour, answering where they end.
-pub fn lay_front(out: &mut [u8], over: &[u8], c0: u8, c1: u8, c2: u8) -> usize
+pub fn lay_front(out: &mut [u8], over: &[u8], ground: Ground) -> usize
     requires { length out.old ≡ length over.now }
     ensures { Front out.new out.old
-        (anew (lay_byte over.now false 0 (solid_byte c0 c1 c2))) result
+        (anew (lay_byte over.now false 0 (solid_byte ground.c0 ground.c1 ground.c2))) result
         × AllAlpha over.now 0 (result / pixel_len) 255 }
 {
-    let c = pixel_of(c0, c1, c2, OPAQUE);
+    let c = solid_pixel(ground);
     let q = repeated(c);
     let mut i = 0;
     while is_opaque_at(over, i) {
@@ -50,12 +50,10 @@ pub fn is_opaque_from(over: &[u8], from: usize) -> bool
     requires { (length over.now % pixel_len ≡ 0) × (from ≤ length over.now) × (from % pixel_len ≡ 0) }
     ensures { result ≡ true → AllAlpha over.now from ((length over.now - from) / pixel_len) 255 }
 {
-    let mut i = from;
-    while i < over.len() {
-        if over[i + ALPHA_PLACE] != OPAQUE {
+    for k in from / PIXEL_LEN..over.len() / PIXEL_LEN {
+        if over[PIXEL_LEN * k + ALPHA_PLACE] != OPAQUE {
             return false;
         }
-        i = i + PIXEL_LEN;
     }
     true
 }

@@ -19,7 +19,7 @@ mod runs;
 mod tints;
 
 use colours::{fill, fill_rest, palette};
-use mix::OPAQUE;
+use mix::{Ground, OPAQUE};
 use sixteen::sizes::BLOCK_LEN;
 
 // Blends the run `over` over `out`, each pixel at its own alpha.
@@ -51,62 +51,63 @@ pub fn blend_flat(out: &mut [u8], over: &[u8], alpha: u8)
 
 // Blends the run `over` over a row of one opaque colour, each pixel at its own alpha. What `out` held
 // does not count, so that such a row is not written twice.
-pub fn lay(out: &mut [u8], over: &[u8], c0: u8, c1: u8, c2: u8)
+pub fn lay(out: &mut [u8], over: &[u8], ground: Ground)
     requires { (length out.old ≡ length over.now) × (length out.old % pixel_len ≡ 0) }
     ensures { out.new ≡ each (over_byte over.now false 0)
-        (tab (length out.old) (solid_byte c0 c1 c2)) }
+        (tab (length out.old) (solid_byte ground.c0 ground.c1 ground.c2)) }
 {
-    let i = grounds::lay_blocks(out, over, c0, c1, c2);
-    fill_rest(out, i, c0, c1, c2);
+    let i = grounds::lay_blocks(out, over, ground);
+    fill_rest(out, i, ground);
     runs::own_rest(out, over, i);
 }
 
 // The same with all pixels at one alpha: at 0 and at 255 no byte of a block is blended.
-pub fn lay_flat(out: &mut [u8], over: &[u8], alpha: u8, c0: u8, c1: u8, c2: u8)
+pub fn lay_flat(out: &mut [u8], over: &[u8], alpha: u8, ground: Ground)
     requires { (length out.old ≡ length over.now) × (length out.old % pixel_len ≡ 0) }
     ensures { out.new ≡ each (over_byte over.now true alpha)
-        (tab (length out.old) (solid_byte c0 c1 c2)) }
+        (tab (length out.old) (solid_byte ground.c0 ground.c1 ground.c2)) }
 {
     if alpha % OPAQUE == 0 {
-        fill(out, c0, c1, c2);
+        fill(out, ground);
         blend_flat(out, over, alpha);
         return;
     }
-    let i = grounds::lay_flat_blocks(out, over, alpha, c0, c1, c2);
-    fill_rest(out, i, c0, c1, c2);
+    let i = grounds::lay_flat_blocks(out, over, alpha, ground);
+    fill_rest(out, i, ground);
     runs::flat_rest(out, over, i, alpha);
 }
 
 // Whether the run is opaque all along. It is then laid over a row of one opaque colour; where it is not, `out` holds
-// anything. The last pixel is looked at first, which saves the pass where a run is opaque but for its end.
-pub fn lay_if_opaque(out: &mut [u8], over: &[u8], c0: u8, c1: u8, c2: u8) -> bool
+// anything. The first pixel and the last are looked at before, which saves the pass where a run is not opaque at an end.
+pub fn lay_if_opaque(out: &mut [u8], over: &[u8], ground: Ground) -> bool
     requires { (length out.old ≡ length over.now) × (length out.old % pixel_len ≡ 0) }
     ensures { result ≡ true → Opaque over.now × (out.new
-        ≡ each (over_byte over.now false 0) (tab (length out.old) (solid_byte c0 c1 c2))) }
+        ≡ each (over_byte over.now false 0) (tab (length out.old) (solid_byte ground.c0 ground.c1 ground.c2))) }
 {
     if !hides::is_opaque_at_ends(over) {
         return false;
     }
-    let i = hides::lay_front(out, over, c0, c1, c2);
+    let i = hides::lay_front(out, over, ground);
     if !hides::is_opaque_from(over, i) {
         return false;
     }
-    fill_rest(out, i, c0, c1, c2);
+    fill_rest(out, i, ground);
     runs::own_rest(out, over, i);
     true
 }
 
-// Either: all pixels at one alpha, or each at its own.
-pub fn lay_either(out: &mut [u8], over: &[u8], global: bool, alpha: u8, c0: u8, c1: u8, c2: u8)
+// Either: all pixels at one alpha, or each at its own. Two arguments say which, as in `over_byte` and in a layer's words,
+// where the alpha is there too while it does not count.
+pub fn lay_either(out: &mut [u8], over: &[u8], global: bool, alpha: u8, ground: Ground)
     requires { (length out.old ≡ length over.now) × (length out.old % pixel_len ≡ 0) }
     ensures { out.new ≡ each (over_byte over.now global alpha)
-        (tab (length out.old) (solid_byte c0 c1 c2)) }
+        (tab (length out.old) (solid_byte ground.c0 ground.c1 ground.c2)) }
 {
     if global {
-        lay_flat(out, over, alpha, c0, c1, c2);
+        lay_flat(out, over, alpha, ground);
         return;
     }
-    lay(out, over, c0, c1, c2);
+    lay(out, over, ground);
 }
 
 // Blends a line of colour indexes over `out`, each through the palette, at its colour's alpha or all at one.
@@ -121,11 +122,11 @@ pub fn tint(out: &mut [u8], line: &[u8], palette: [u32; 16], global: bool, alpha
 
 // The palette whose colours are these over one opaque colour: a line of indexes through it is that line blended over a row
 // of that colour.
-pub fn grounded(colours: [u32; 16], global: bool, alpha: u8, c0: u8, c1: u8, c2: u8) -> [u32; 16]
-    ensures { Grounded colours global alpha c0 c1 c2 result }
+pub fn grounded(colours: [u32; 16], global: bool, alpha: u8, ground: Ground) -> [u32; 16]
+    ensures { Grounded colours global alpha ground.c0 ground.c1 ground.c2 result }
 {
     let own = palettes::bytes_of(colours);
     let mut laid = [0u8; BLOCK_LEN];
-    lay_either(&mut laid, &own, global, alpha, c0, c1, c2);
+    lay_either(&mut laid, &own, global, alpha, ground);
     palette(&laid)
 }

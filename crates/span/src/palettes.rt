@@ -14,10 +14,8 @@ fn at_alpha(palette: [u32; 16], alpha: u8) -> [u32; 16]
     ensures { Lanes result 16 (AlphaIs palette alpha) }
 {
     let mut w = [0u32; 16];
-    let mut k = 0;
-    while k < BLOCK_PIXELS {
+    for k in 0..BLOCK_PIXELS {
         w[k] = pixel_at(palette[k], alpha);
-        k = k + 1;
     }
     w
 }

@@ -24,7 +24,8 @@ pub fn is_mixed_at(over: &[u8], i: usize) -> bool
 }
 
 // The block at `from` and those after it up to one whose first pixel is clear or opaque, answering where they
-// end. No call stands in the loop, so that what it goes by stays in registers from block to block.
+// end. The first one is known, so the test stands at the end. No call is left in the loop once it is compiled, so that what
+// it goes by stays in registers from block to block.
 fn own_mixed(out: &mut [u8], over: &[u8], from: usize) -> usize
     requires { (length out.old ≡ length over.now) × (from + block_len ≤ length out.old) × (from % pixel_len ≡ 0) }
     ensures { Onward out.new out.old (over_byte over.now false 0) from result }
@@ -63,7 +64,7 @@ fn own_turn(out: &mut [u8], over: &[u8], i: usize) -> usize
     own_mixed(out, over, i)
 }
 
-// The blocks, each pixel at its own alpha.
+// The blocks, each pixel at its own alpha. A turn does one or more, so they are not counted.
 pub fn own_blocks(out: &mut [u8], over: &[u8]) -> usize
     requires { length out.old ≡ length over.now }
     ensures { Front out.new out.old (over_byte over.now false 0) result }
@@ -82,10 +83,9 @@ pub fn own_rest(out: &mut [u8], over: &[u8], from: usize)
     ensures { Part out.new out.old
         (over_byte over.now false 0) from (length out.old) }
 {
-    let mut i = from;
-    while i < over.len() {
+    for k in from / PIXEL_LEN..over.len() / PIXEL_LEN {
+        let i = PIXEL_LEN * k;
         pixel(out, over, i, over[i + ALPHA_PLACE]);
-        i = i + PIXEL_LEN;
     }
 }
 
@@ -94,37 +94,34 @@ pub fn flat_blocks(out: &mut [u8], over: &[u8], alpha: u8) -> usize
     requires { length out.old ≡ length over.now }
     ensures { Front out.new out.old (over_byte over.now true alpha) result }
 {
-    let mut i = 0;
-    while BLOCK_LEN <= over.len() - i {
-        flat16(out, over, i, alpha);
-        i = i + BLOCK_LEN;
+    let blocks = over.len() / BLOCK_LEN;
+    for k in 0..blocks {
+        flat16(out, over, BLOCK_LEN * k, alpha);
     }
-    i
+    BLOCK_LEN * blocks
 }
 
-// The blocks, all pixels at the alpha 255.
+// The blocks, all pixels at the alpha 255. Apart from `flat_blocks`: of a turn that is handed in as a closure the
+// contract had to say what each call leaves of the run, which is longer than the loop.
 pub fn copy_blocks(out: &mut [u8], over: &[u8]) -> usize
     requires { length out.old ≡ length over.now }
     ensures { Front out.new out.old (over_byte over.now true 255) result }
 {
-    let mut i = 0;
-    while BLOCK_LEN <= over.len() - i {
-        copy16(out, over, i);
-        i = i + BLOCK_LEN;
+    let blocks = over.len() / BLOCK_LEN;
+    for k in 0..blocks {
+        copy16(out, over, BLOCK_LEN * k);
     }
-    i
+    BLOCK_LEN * blocks
 }
 
-// The pixels from `from` on, at one alpha.
+// The pixels from `from` on, at one alpha. Apart from `own_rest`, as `copy_blocks` is from `flat_blocks`.
 pub fn flat_rest(out: &mut [u8], over: &[u8], from: usize, alpha: u8)
     requires { (length out.old ≡ length over.now) × (length out.old % pixel_len ≡ 0)
         × (from ≤ length out.old) × (from % pixel_len ≡ 0) }
     ensures { Part out.new out.old
         (over_byte over.now true alpha) from (length out.old) }
 {
-    let mut i = from;
-    while i < over.len() {
-        pixel(out, over, i, alpha);
-        i = i + PIXEL_LEN;
+    for k in from / PIXEL_LEN..over.len() / PIXEL_LEN {
+        pixel(out, over, PIXEL_LEN * k, alpha);
     }
 }

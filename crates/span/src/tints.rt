@@ -45,17 +45,16 @@ fn put_colour(out: &mut [u8], c: u32, from: usize, to: usize)
     ensures { Part out.new out.old (tint_byte c false 0) from to }
 {
     let p = repeated(c);
-    let mut i = from;
-    while i < to {
+    for k in 0..(to - from) / BLOCK_LEN {
+        let i = from + BLOCK_LEN * k;
         let q = pixels(out, i);
         let w = joined(p, q);
         let h = halves(w);
         store(out, i, h);
-        i = i + BLOCK_LEN;
     }
 }
 
-// A colour over them at its alpha.
+// A colour over them at its alpha. Apart from `put_colour`, as `copy_blocks` of `runs` is from `flat_blocks`.
 fn mix_colour(out: &mut [u8], c: u32, from: usize, to: usize)
     requires { Blocks (length out.old) from to }
     ensures { Part out.new out.old (tint_byte c false 0) from to }
@@ -63,12 +62,11 @@ fn mix_colour(out: &mut [u8], c: u32, from: usize, to: usize)
     let p = repeated(c);
     let o = halves(p);
     let a = own_alphas(o);
-    let mut i = from;
-    while i < to {
+    for k in 0..(to - from) / BLOCK_LEN {
+        let i = from + BLOCK_LEN * k;
         let u = words(out, i);
         let w = mixed(a, o, u);
         store(out, i, w);
-        i = i + BLOCK_LEN;
     }
 }
 
@@ -94,10 +92,8 @@ fn colours16(line: &[u8], palette: &[u32; 16], j: usize) -> [u32; 16]
     ensures { Lanes result 16 (ColourIs line.now palette.now j) }
 {
     let mut w = [0u32; 16];
-    let mut k = 0;
-    while k < BLOCK_PIXELS {
+    for k in 0..BLOCK_PIXELS {
         w[k] = palette[index_of(line[j + k])];
-        k = k + 1;
     }
     w
 }
@@ -133,7 +129,7 @@ fn tint_turn(out: &mut [u8], line: &[u8], palette: &[u32; 16], j: usize) -> usiz
     end
 }
 
-// The blocks of a line of indexes, answering at which index they end.
+// The blocks of a line of indexes, answering at which index they end. A turn does one or more, so they are not counted.
 pub fn tint_line(out: &mut [u8], line: &[u8], palette: &[u32; 16]) -> usize
     requires { length out.old ≡ pixel_len * length line.now }
     ensures { Front out.new out.old
@@ -167,10 +163,8 @@ pub fn tint_rest(out: &mut [u8], line: &[u8], palette: &[u32; 16], from: usize)
         (over_byte (colour_row line.now palette.now) false 0) (pixel_len * from)
         (length out.old) }
 {
-    let mut j = from;
-    while j < line.len() {
+    for j in from..line.len() {
         let c = palette[index_of(line[j])];
         tint_pixel(out, c, PIXEL_LEN * j);
-        j = j + 1;
     }
 }

@@ -1,6 +1,6 @@
 -- A step that is left out and one that is done; and the turns of the loops over steps, where what
 -- is left to do from here on comes to the same as the whole. Assumes nothing.
-use Prim.Native.Nat.{ℕ, zero, suc, ◌+◌, ◌-◌, ◌<◌, ◌≤◌}
+use Prim.Native.Nat.{ℕ, zero, suc, ◌+◌, ◌-◌, ◌*◌, ◌<◌, ◌≤◌}
 use mathlib.Core.Path.{◌≡◌, refl, sym, ap, ap₂, ◌∙◌}
 use mathlib.Core.Logic.{⊎_elim}
 use mathlib.Core.List.{List, [], ◌∷◌, ◌++◌}
@@ -8,6 +8,7 @@ use native.Mathlib.Omega.{arith}
 use borrow.Author.Tests.{eq-eqb, ne_eqb}
 use lib.ListN.{length, take, drop}
 use lib.Seq.{drop-cons}
+use Rattle.std.specs.Prelude.{◌≢◌}
 use Rattle.lists.proofs.Choice.{same_or}
 use Rattle.answers.specs.Answers.{done}
 use Rattle.runs.specs.Run.{Many}
@@ -16,13 +17,13 @@ use Rattle.runs.proofs.RunLaws.{run_none, run-goes, run-stops}
 use Rattle.display.specs.declared.Display.{Display}
 use Rattle.display.specs.declared.Told.{Told}
 use Rattle.display.specs.declared.Ran.{Ran}
-use Rattle.display.specs.State.{told, write_of, select_of}
+use Rattle.display.specs.State.{told, write_of}
 use Rattle.display.specs.Put.{put_of, put_tables}
 use Rattle.display.specs.Runs.{Lent, lent, put_one, puts, put_run_of, put_run_tables}
 use Rattle.steps.specs.Form.{byte_at, count_at, word_at, loads_of, writes_place}
 use Rattle.steps.specs.Steps.{Act, Midway, midway, act_of, step_of, run_of, puts_at, load_at, loads_at, writes_at}
 use Rattle.steps.specs.Steps.{steps_of}
-use Rattle.steps.proofs.FormLaws.{one_left, none_left}
+use Rattle.steps.proofs.FormLaws.{turn_left, none_left}
 
 -- ---- one step
 
@@ -35,13 +36,18 @@ step_of-done : (t r : Told) (l u : List ℕ) (s : Act) → t.answer ≡ done →
 unfolding step_of
 step_of-done t r l u s h e = simp (eq-eqb t.answer done h) e
 
-pub select-done : (t r : Told) (l : List ℕ) (n : ℕ) → t.answer ≡ done → r ≡ select_of t.state n
-    → midway r l ≡ step_of (midway t l) (Act.select n)
-select-done t r l n h e = step_of-done t r l l (Act.select n) h (rw e refl)
-
 pub write_done : (t r : Told) (l : List ℕ) (n v : ℕ) → t.answer ≡ done → r ≡ write_of t.state n v
     → midway r l ≡ step_of (midway t l) (Act.write n v)
 write_done t r l n v h e = step_of-done t r l l (Act.write n v) h (rw e refl)
+
+-- a step that is left out after a refusal
+pub step_of-unless : (t r : Told) (l : List ℕ) (s : Act) → (t.answer ≢ done → r ≡ t)
+    → (t.answer ≡ done → midway r l ≡ act_of t.state l s) → midway r l ≡ step_of (midway t l) s
+step_of-unless t r l s out did =
+    ⊎_elim
+    (λ (h : t.answer ≡ done). step_of-done t r l l s h (did h))
+    (λ (h : t.answer ≢ done). ap (λ (q : Told). midway q l) (out h) ∙ step_of-refused t l s h)
+    (same_or t.answer done)
 
 -- ---- steps in a row
 
@@ -106,27 +112,30 @@ puts-run t l u n at b r e h p q =
     ∙ ap (λ (m : ℕ). left_of (many.run_of put_one (lent t.state l) (take m (drop at b)))) k
     ∙ puts-many n b at t.state l h ∙ ap (λ (x : Told). run_of (midway x l) (puts_at n b at)) same
 
--- m before the turn, m' after it, w the whole
-module _ (b : List ℕ) (n at : ℕ) (m m' w : Midway) where
-  pub loads-turn : (c : ℕ) → 0 < n → run_of m (loads_at n b at) ≡ w → c ≡ count_at b (at + 1) → m' ≡ run_of m (load_at b at)
-      → run_of m' (loads_at (n - 1) b (at + 3 + c)) ≡ w
+-- i of n turns are done; m before the turn, m' after it, w the whole
+module _ (b : List ℕ) (n i at : ℕ) (m m' w : Midway) where
+  pub loads-turn : (c : ℕ) → i < n → run_of m (loads_at (n - i) b at) ≡ w → c ≡ count_at b (at + 1)
+      → m' ≡ run_of m (load_at b at) → run_of m' (loads_at (n - (i + 1)) b (at + 3 + c)) ≡ w
   unfolding loads_at
   loads-turn c p e q d =
-      rw (d, q) (sym (run_of-append m (load_at b at) (loads_at (n - 1) b (at + 3 + count_at b (at + 1))))
-      ∙ sym (ap (λ (k : ℕ). run_of m (loads_at k b at)) (one_left p)) ∙ e)
+      rw (d, q) (sym (run_of-append m (load_at b at) (loads_at (n - (i + 1)) b (at + 3 + count_at b (at + 1))))
+      ∙ sym (ap (λ (k : ℕ). run_of m (loads_at k b at)) (turn_left p)) ∙ e)
 
-  pub loads-end : n ≤ 0 → run_of m (loads_at n b at) ≡ w → m ≡ w
+  pub loads-end : n ≤ i → run_of m (loads_at (n - i) b at) ≡ w → m ≡ w
   unfolding run_of loads_at
   loads-end p e = sym (ap (λ (k : ℕ). run_of m (loads_at k b at)) (none_left p)) ∙ e
 
-  pub writes-turn : (r v : ℕ) → 0 < n → run_of m (writes_at n b at) ≡ w → r ≡ byte_at b at → v ≡ word_at b (at + 1)
-      → m' ≡ step_of m (Act.write r v) → run_of m' (writes_at (n - 1) b (at + 5)) ≡ w
+  pub writes-turn : (r v : ℕ) → i < n → run_of m (writes_at (n - i) b (at + 5 * i)) ≡ w → r ≡ byte_at b (at + 5 * i)
+      → v ≡ word_at b (at + 5 * i + 1) → m' ≡ step_of m (Act.write r v)
+      → run_of m' (writes_at (n - (i + 1)) b (at + 5 * (i + 1))) ≡ w
   unfolding run_of writes_at
-  writes-turn r v p e q f d = rw (d, q, f) (sym (ap (λ (k : ℕ). run_of m (writes_at k b at)) (one_left p)) ∙ e)
+  writes-turn r v p e q f d =
+      let z : at + 5 * (i + 1) ≡ at + 5 * i + 5 = omega arith in
+      rw (z, d, q, f) (sym (ap (λ (k : ℕ). run_of m (writes_at k b (at + 5 * i))) (turn_left p)) ∙ e)
 
-  pub writes_end : n ≤ 0 → run_of m (writes_at n b at) ≡ w → m ≡ w
+  pub writes_end : n ≤ i → run_of m (writes_at (n - i) b (at + 5 * i)) ≡ w → m ≡ w
   unfolding run_of writes_at
-  writes_end p e = sym (ap (λ (k : ℕ). run_of m (writes_at k b at)) (none_left p)) ∙ e
+  writes_end p e = sym (ap (λ (k : ℕ). run_of m (writes_at k b (at + 5 * i))) (none_left p)) ∙ e
 
 pub load_is : (b : List ℕ) (at x n : ℕ) (t₀ t r : Told) (l u : List ℕ) → x ≡ byte_at b at
     → ((k : List ℕ) → midway t k ≡ step_of (midway t₀ k) (Act.select x))

@@ -2,7 +2,7 @@
 // the other; the bytes of a load by one run. A step after a refusal changes nothing, so no loop is left early.
 #![tactic(auto)]
 
-ghost use Rattle.std.specs.Prelude.{◌≡◌, ℕ, ◌+◌, ◌*◌, ◌<◌, ◌≤◌, length, List};
+ghost use Rattle.std.specs.Prelude.{◌≡◌, ◌≢◌, ℕ, ◌+◌, ◌*◌, ◌<◌, ◌≤◌, length, List};
 ghost use Rattle.answers.specs.Answers.{done};
 ghost use Rattle.display.specs.State.{told};
 ghost use Rattle.steps.specs.Form.{count_at, loads_of, writes_place};
@@ -13,45 +13,44 @@ use display::{Display, Told};
 
 pub mod form;
 
+// A step, but none after a refusal: there all stays as it is.
+fn unless_refused<F: FnOnce(Display) -> Told>(t: Told, step: F) -> Told
+    requires { F.IsAlwaysCallable step }
+    ensures refused { t.answer ≢ done → result ≡ t }
+    ensures stepped { t.answer ≡ done → F.post step t.state result }
+{
+    if t.answer != DONE {
+        return t;
+    }
+    step(t.state)
+}
+
 // A step that leaves the tables alone says so of all tables.
 fn select(t: Told, selection: u32) -> Told
     ensures { (l : List ℕ) → midway result l ≡ step_of (midway t l) (Act.select selection) }
 {
-    let answer = t.answer;
-    if answer != DONE {
-        return t;
-    }
-    let state = t.state;
-    state.select(selection)
+    unless_refused(t, |state| state.select(selection))
 }
 
 fn write(t: Told, register: u32, value: u32) -> Told
     ensures { (l : List ℕ) → midway result l ≡ step_of (midway t l) (Act.write register value) }
 {
-    let answer = t.answer;
-    if answer != DONE {
-        return t;
-    }
-    let state = t.state;
-    state.write(register, value)
+    unless_refused(t, |state| state.write(register, value))
 }
 
-// The n bytes from a place on, each put: one run.
+// The n bytes from a place on, each put: one run. It tests for a refusal itself, since a step that is handed to
+// `unless_refused` leaves no promise of tables that it borrows.
 fn puts(first: Told, tables: &mut [u8], b: &[u8], from: usize, n: usize) -> Told
     requires { from + n ≤ length b.now }
     ensures { midway result tables.new
         ≡ run_of (midway first tables.old) (puts_at n b.now from) }
 {
-    let answer = first.answer;
-    if answer != DONE {
+    if first.answer != DONE {
         return first;
     }
-    let state = first.state;
-    let end = from + n;
-    let ran = state.put_run(tables, &b[from..end]);
-    let after = ran.state;
+    let ran = first.state.put_run(tables, &b[from..from + n]);
     Told {
-        state: after,
+        state: ran.state,
         answer: ran.answer,
     }
 }
@@ -74,11 +73,9 @@ fn loads(first: Told, tables: &mut [u8], b: &[u8]) -> Told
 {
     let mut t = first;
     let mut at: usize = 1;
-    let mut left = form::byte_at(b, 0);
-    while 0 < left {
+    for _ in 0..form::byte_at(b, 0) {
         t = load(t, tables, b, at);
         at = at + 3 + form::count_at(b, at + 1);
-        left -= 1;
     }
     t
 }
@@ -88,16 +85,11 @@ fn writes(first: Told, b: &[u8], from: usize, n: usize) -> Told
     ensures { (l : List ℕ) → midway result l ≡ run_of (midway first l) (writes_at n b.now from) }
 {
     let mut t = first;
-    let mut at = from;
-    let mut left = n;
-    while 0 < left {
-        t = write(
-            t,
-            form::byte_at(b, at) as u32,
-            form::word_at(b, at + 1) as u32,
-        );
-        at += 5;
-        left -= 1;
+    for i in 0..n {
+        let at = from + 5 * i;
+        let register = form::byte_at(b, at) as u32;
+        let value = form::word_at(b, at + 1) as u32;
+        t = write(t, register, value);
     }
     t
 }

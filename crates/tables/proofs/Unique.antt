@@ -1,6 +1,7 @@
 -- No two outcomes meet a function's promise. `Post` is the function's own `ensures`, as the check reads it
 -- in `src/`: of the arguments i, the answer a or b, and the arguments at exit, e or f. Assumes nothing.
 use mathlib.Core.Path.{◌≡◌, sym, ◌∙◌}
+use Rattle.words.proofs.KindLaws.{kind-number-unique}
 use Rattle.tables.proofs.font_len.Reads as FontLen
 use Rattle.tables.proofs.tables_len.Reads as TablesLen
 use Rattle.tables.proofs.controller_of.Reads as ControllerOf
@@ -21,7 +22,7 @@ pub controller-of-unique : (κs i a b e f : _) → ControllerOf.Post κs i a e �
 controller-of-unique κs i a b e f p q = p ∙ sym q
 
 pub kind-of-unique : (κs i a b e f : _) → KindOf.Post κs i a e → KindOf.Post κs i b f → a ≡ b
-kind-of-unique κs i a b e f p q = p ∙ sym q
+kind-of-unique κs i a b e f p q = kind-number-unique a b (p ∙ sym q)
 
 pub bank-of-unique : (κs i a b e f : _) → BankOf.Post κs i a e → BankOf.Post κs i b f → a ≡ b
 bank-of-unique κs i a b e f p q = p ∙ sym q

@@ -1,6 +1,6 @@
 // The lent table buffer: where each controller's banks stand, what a selection selects, and which
-// banks are the active ones, over the number of bits that a pixel of a glyph has. Nothing here knows what
-// the bytes mean.
+// banks are the active ones, over the number of bits that a pixel of a glyph has. That is a number, and no type
+// of its own: what is promised here holds of each up to 2, and of 0. Nothing here knows what the bytes mean.
 //
 //     controller g at 3,712 g, its bank b at +1,856 b, and in a bank        with two bits 5,248 g, +2,624 b
 //        0  instructions   48 of 16 bytes      kind 0
@@ -10,19 +10,12 @@
 #![tactic(auto)]
 
 ghost use Rattle.std.specs.Prelude.{◌≡◌, ◌+◌, ◌<◌, ◌≤◌};
-ghost use Rattle.tables.specs.Geometry.{tables_len, bank_len, font_len, kind_len, bank_at};
+ghost use Rattle.words.specs.Kinds.{kind_number};
+ghost use Rattle.tables.specs.Geometry.{tables_len, bank_len, font_len, kind_at, kind_len, bank_at};
 ghost use Rattle.tables.specs.Selection.{controller_of, kind_of, bank_of, end_of, first_byte_of, named_by, active_at};
 
 use words::fields::active_bank;
-
-// The four kinds of a bank.
-pub const LIST: u32 = 0;
-
-pub const COLOURS: u32 = 1;
-
-pub const STRINGS: u32 = 2;
-
-pub const FONT: u32 = 3;
+pub use words::kinds::Kind;
 
 // How many a table of each kind has, and the bytes of one; a glyph's are its rows', and a row has a byte
 // for each bit of a pixel.
@@ -49,12 +42,11 @@ pub const COLOURS_LEN: usize = COLOUR_COUNT * COLOUR_LEN;
 
 pub const STRINGS_LEN: usize = STRING_COUNT * STRING_LEN;
 
-// Where each kind begins in its bank.
+// Where the font begins in its bank.
 const FONT_AT: usize = 1088;
 
-const KIND_AT: [usize; 4] = [0, 768, 832, FONT_AT];
-
-// The table that puts go to, and the place of the next byte in it. Until one is made nothing is selected.
+// The table that puts go to, and the place of the next byte in it. Until one is made nothing is selected, and a flag
+// says so, not an Option: a state's bytes hold a number and a place there too (`taken_of` of `display`).
 #[derive(Clone, Copy)]
 pub struct Selection {
     pub made: bool,
@@ -73,6 +65,7 @@ pub fn font_len(bits: usize) -> usize
 }
 
 // Those of a bank, which the font ends.
+#[tactic(auto, unfolding(crate::specs::Geometry::bank_len))]
 fn bank_len(bits: usize) -> usize
     requires { bits ≤ 2 }
     ensures { (result ≡ bank_len bits) × (result ≤ 2624) }
@@ -81,6 +74,7 @@ fn bank_len(bits: usize) -> usize
 }
 
 // And of the whole buffer.
+#[tactic(auto, unfolding(crate::specs::Geometry::tables_len))]
 pub fn tables_len(bits: usize) -> usize
     requires { bits ≤ 2 }
     ensures { result ≡ tables_len bits }
@@ -89,18 +83,30 @@ pub fn tables_len(bits: usize) -> usize
 }
 
 // The bytes of a kind.
-fn kind_len(bits: usize, kind: u32) -> u32
-    requires { (bits ≤ 2) × (kind < 4) }
-    ensures { result ≡ kind_len bits kind }
+#[tactic(auto, unfolding(crate::specs::Geometry::kind_len))]
+fn kind_len(bits: usize, kind: Kind) -> u32
+    requires { bits ≤ 2 }
+    ensures { result ≡ kind_len bits (kind_number kind) }
 {
-    let font = font_len(bits) as u32;
-    let lengths = [
-        LIST_LEN as u32,
-        COLOURS_LEN as u32,
-        STRINGS_LEN as u32,
-        font,
-    ];
-    lengths[kind as usize]
+    match kind {
+        Kind::List => LIST_LEN as u32,
+        Kind::Colours => COLOURS_LEN as u32,
+        Kind::Strings => STRINGS_LEN as u32,
+        Kind::Font => font_len(bits) as u32,
+    }
+}
+
+// Where a kind begins in its bank.
+#[tactic(auto, unfolding(crate::specs::Geometry::kind_at))]
+fn kind_at(kind: Kind) -> usize
+    ensures { (result ≡ kind_at (kind_number kind)) × (result ≤ 1088) }
+{
+    match kind {
+        Kind::List => 0,
+        Kind::Colours => 768,
+        Kind::Strings => 832,
+        Kind::Font => FONT_AT,
+    }
 }
 
 // ---- a selection
@@ -112,10 +118,15 @@ pub fn controller_of(selection: u32) -> u32
     selection / 8 % 8
 }
 
-pub fn kind_of(selection: u32) -> u32
-    ensures { result ≡ kind_of selection }
+pub fn kind_of(selection: u32) -> Kind
+    ensures { kind_number result ≡ kind_of selection }
 {
-    selection / 2 % 4
+    match selection / 2 % 4 {
+        0 => Kind::List,
+        1 => Kind::Colours,
+        2 => Kind::Strings,
+        _ => Kind::Font,
+    }
 }
 
 pub fn bank_of(selection: u32) -> u32
@@ -132,13 +143,14 @@ pub fn end_of(bits: usize, selection: u32) -> u32
     kind_len(bits, kind_of(selection))
 }
 
-// Where a kind of a bank of a controller begins in the buffer.
-fn bank_at(bits: usize, controller: u32, bank: u32, kind: u32) -> usize
-    requires { (bits ≤ 2) × (controller < 8) × (bank < 2) × (kind < 4) }
-    ensures { result ≡ bank_at bits controller bank kind }
+// Where a kind of a bank of a controller begins: all of its bytes lie in the buffer.
+fn bank_at(bits: usize, controller: u32, bank: u32, kind: Kind) -> usize
+    requires { (bits ≤ 2) × (controller < 8) × (bank < 2) }
+    ensures { (result ≡ bank_at bits controller bank (kind_number kind))
+        × (result + kind_len bits (kind_number kind) ≤ tables_len bits) }
 {
     let bank_bytes = bank_len(bits);
-    2 * bank_bytes * (controller as usize) + bank_bytes * (bank as usize) + KIND_AT[kind as usize]
+    2 * bank_bytes * (controller as usize) + bank_bytes * (bank as usize) + kind_at(kind)
 }
 
 // Where the selected table begins: all of its bytes lie in the buffer.
@@ -165,10 +177,10 @@ pub fn is_named(w: &[u32; 52], selection: u32) -> bool
 
 // Where the bank of a kind that the words name for a controller begins: all of its bytes lie in the
 // buffer.
-pub fn active_at(bits: usize, w: &[u32; 52], controller: u32, kind: u32) -> usize
-    requires { (bits ≤ 2) × (controller < 8) × (kind < 4) }
-    ensures { (result ≡ active_at bits w.now controller kind)
-        × (result + kind_len bits kind ≤ tables_len bits) }
+pub fn active_at(bits: usize, w: &[u32; 52], controller: u32, kind: Kind) -> usize
+    requires { (bits ≤ 2) × (controller < 8) }
+    ensures { (result ≡ active_at bits w.now controller (kind_number kind))
+        × (result + kind_len bits (kind_number kind) ≤ tables_len bits) }
 {
     bank_at(bits, controller, active_bank(w, controller, kind), kind)
 }

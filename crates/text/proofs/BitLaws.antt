@@ -54,10 +54,6 @@ module _ (bits : ℕ) (some : bits ≡ 0 → ⊥) (byte : bits < 256) where
   each_row f e =
       let q : bits - 1 + 1 ≡ bits = omega arith in rw q at (every-at 255 (λ i. f (i + 1)) e (bits - 1) (omega arith))
 
-  pub carried-le : carried bits ≤ 256
-  unfolding every
-  carried-le = leb-true _ _ (each_row (λ b. leb (carried b) 256) refl)
-
   pub beside-lt : beside bits < bits
   unfolding every
   beside-lt = ltb-true _ _ (each_row (λ b. ltb (beside b) b) refl)

@@ -78,10 +78,6 @@ module _ (bits line k : ℕ) (ne : bits ≡ 1 → ⊥) (some : 0 < bits) (few : 
   two_bytes_lem : (bits ≡ 2) × (line < 65536)
   two_bytes_lem = let two : bits ≡ 2 = omega (arith, ne) in (two, rw two at h)
 
-  -- what each of the two bytes is asked with
-  pub two-asked : k < 2 * bits → (line / 256 < 256) × (k < 4)
-  two-asked hk = let h = two_bytes_lem.1 in (omega arith, omega arith)
-
   -- the first four columns are the first byte's, the others the second's
   pub marks-two : (a b : ℕ) → Fours (line / 256) k a → Fours (line % 256) k b → Marks bits line k (16 * a + b)
   unfolding pixel_of

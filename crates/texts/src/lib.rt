@@ -7,15 +7,14 @@ ghost use Rattle.texts.specs.Lines.{kept_of};
 ghost use Rattle.texts.specs.Replies.{reply_text};
 ghost use Rattle.texts.specs.Engine.Gathers.{line_with, gathered_of};
 
-use numbers::least;
-
 // What ends a line, read or printed.
 pub const LINE_FEED: u8 = 10;
 
 // Printed FE.
 pub const BAD_FORM: u8 = 254;
 
-// What a block has brought to a line.
+// What a block has brought to a line. Its numbers are good whether the line has ended or not, so that whether it has
+// is a field beside them.
 #[derive(Clone, Copy)]
 pub struct Gathered {
     // How many bytes of the line have come; they stand at the front of the text.
@@ -34,14 +33,15 @@ fn keep(text: &mut [u8], held: usize, part: &[u8]) -> usize
         part.now) text.old) }
 {
     let most = text.len();
-    let n = least(held, most);
-    let m = least(part.len(), most - n);
+    let n = held.min(most);
+    let m = part.len().min(most - n);
     octets::copy(&part[..m], &mut text[n..]);
     n + m
 }
 
 // On to the end of one line at most: its bytes are kept behind those that are held. A line that has
-// ended may be longer than what is kept of it.
+// ended may be longer than what is kept of it. What is held is a number beside the text, and no slice of it, since a
+// line grows in memory that is lent and fixed.
 pub fn gather(text: &mut [u8], held: usize, block: &[u8]) -> Gathered
     ensures value { result ≡ gathered_of text.old held block.now }
     ensures text_after { text.new

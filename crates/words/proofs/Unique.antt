@@ -10,6 +10,7 @@ use Rattle.words.proofs.fields.ground_of.Reads as GroundOf
 use Rattle.words.proofs.fields.active_bank.Reads as ActiveBank
 use Rattle.words.proofs.fields.layer_word.Reads as LayerWord
 use Rattle.words.proofs.fields.layer_of.Reads as LayerOf
+use Rattle.words.proofs.kinds.Kind.number.Reads as Number
 use Rattle.words.proofs.change.with_off.Reads as WithOff
 use Rattle.words.proofs.change.with_bytes.Reads as WithBytes
 use Rattle.words.proofs.change.with_depth.Reads as WithDepth
@@ -31,6 +32,9 @@ screen-height-unique κs i a b e f p q = meet p q
 
 pub ground-of-unique : (κs i a b e f : _) → GroundOf.Post κs i a e → GroundOf.Post κs i b f → a ≡ b
 ground-of-unique κs i a b e f p q = meet p q
+
+pub number-unique : (κs i a b e f : _) → Number.Post κs i a e → Number.Post κs i b f → a ≡ b
+number-unique κs i a b e f p q = meet p.0 q.0
 
 pub active-bank-unique : (κs i a b e f : _) → ActiveBank.Post κs i a e → ActiveBank.Post κs i b f → a ≡ b
 active-bank-unique κs i a b e f p q = meet p q

@@ -1,7 +1,7 @@
 -- The 52 words read: 01 "Registers". Words are a list of numbers of 32 bits; past its end a word
 -- counts as 0. Assumes nothing.
 use Rattle.std.specs.Prelude.{ℕ, ◌+◌, ◌*◌, ◌/◌, ◌%◌, ◌^◌, Bool, List, get_or, eqb}
-use Rattle.words.specs.declared.fields.Ground.{Ground}
+use Rattle.mix.specs.declared.Ground.{Ground}
 use Rattle.words.specs.declared.fields.Layer.{Layer}
 
 -- "11:0", the lower of two numbers of 12 bits that share a word. "000 speaks of 4096 pixels, but its 12

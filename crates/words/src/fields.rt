@@ -3,8 +3,13 @@
 ghost use Rattle.std.specs.Prelude.{◌≡◌, ◌+◌, ◌*◌, ◌<◌, get_or};
 ghost use Rattle.words.specs.Fields.{shown_of, update_of, width_of, height_of, grounds_of};
 ghost use Rattle.words.specs.Fields.{active_bank_of, layer_of, low_of, high_of};
+ghost use Rattle.words.specs.Kinds.{kind_number};
 
-// The six words of a layer, read.
+use crate::kinds::Kind;
+pub use mix::Ground;
+
+// The six words of a layer, read. Its bits are flags, and no enum of kinds: pending words may set any of them together,
+// and a start is what refuses that.
 #[derive(Clone, Copy)]
 pub struct Layer {
     pub on: bool,
@@ -22,13 +27,6 @@ pub struct Layer {
     // How many frames the fade takes: its length.
     pub period: u16,
     pub target: u8,
-}
-
-#[derive(Clone, Copy)]
-pub struct Ground {
-    pub c0: u8,
-    pub c1: u8,
-    pub c2: u8,
 }
 
 // Two numbers of 12 bits share a word: the lower at 11:0, the upper at 27:16.
@@ -74,20 +72,16 @@ pub fn screen_height(w: &[u32; 52]) -> u16
 pub fn ground_of(w: &[u32; 52]) -> Ground
     ensures { result ≡ grounds_of w.now }
 {
-    let word = w[2];
-    Ground {
-        c0: (word % 256) as u8,
-        c1: (word / 256 % 256) as u8,
-        c2: (word / 65536 % 256) as u8,
-    }
+    let [c0, c1, c2, _] = w[2].to_le_bytes();
+    Ground { c0, c1, c2 }
 }
 
-// The bank of a kind (0 instruction, 1 colour, 2 text, 3 font) that controller g paints from.
-pub fn active_bank(w: &[u32; 52], g: u32, kind: u32) -> u32
-    requires { (g < 8) × (kind < 4) }
-    ensures { result ≡ active_bank_of w.now g kind }
+// The bank of a kind that controller g paints from.
+pub fn active_bank(w: &[u32; 52], g: u32, kind: Kind) -> u32
+    requires { g < 8 }
+    ensures { result ≡ active_bank_of w.now g (kind_number kind) }
 {
-    (w[3] >> (8 * kind + g)) % 2
+    (w[3] >> (8 * kind.number() + g)) % 2
 }
 
 // Word j+6n, which is layer n's where j is 4 to 9.
@@ -98,6 +92,7 @@ pub fn layer_word(w: &[u32; 52], j: usize, n: usize) -> u32
     w[j + 6 * n]
 }
 
+#[tactic(auto, unfolding(crate::specs::Fields::layer_of))]
 pub fn layer_of(w: &[u32; 52], n: usize) -> Layer
     requires { n < 8 }
     ensures { result ≡ layer_of w.now n }
@@ -119,7 +114,7 @@ pub fn layer_of(w: &[u32; 52], n: usize) -> Layer
         y: upper(place),
         width: lower(size),
         height: upper(size),
-        start: start,
+        start,
         period: (fade % 65536) as u16,
         target: (fade / 65536 % 256) as u8,
     }

@@ -19,11 +19,9 @@ pub fn words_at(s: &[u8], at: usize) -> [u32; 52]
     requires { at + 208 ≤ length s.now }
     ensures { result ≡ words_from s.now at }
 {
-    let mut words: [u32; 52] = [0; 52];
-    let mut i: usize = 0;
-    while i < 52 {
+    let mut words = [0u32; 52];
+    for i in 0..52 {
         words[i] = word_at(s, at + 4 * i);
-        i += 1;
     }
     words
 }

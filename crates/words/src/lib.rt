@@ -5,4 +5,5 @@
 pub mod change;
 pub mod fields;
 pub mod image;
+pub mod kinds;
 pub mod pictures;

@@ -1,6 +1,5 @@
 -- `hexadecimal::print_bytes` meets its contract: at the head of turn i the digits of the first i
--- bytes are written. The measure is what is left. Assumes nothing.
-use Prim.Native.Nat.{◌-◌, ◌≤◌}
+-- bytes are written. Assumes nothing.
 use mathlib.Core.Path.{◌≡◌}
 use lib.ListN.{length, take}
 use Rattle.lists.specs.Over.{over}
@@ -8,7 +7,4 @@ use Rattle.hexadecimal.specs.Hex.{digits_of}
 use Rattle.hexadecimal.proofs.print_bytes.Given as goal
 
 abbrev pub invariant-loop-i : goal.invariant-loop-i
-invariant-loop-i l = (l.i ≤ length l.bytes) × (length l.out ≡ length l.initial.out) × (l.out ≡ over (digits_of (take l.i l.bytes)) l.initial.out)
-
-abbrev pub decreases-loop-i : goal.decreases-loop-i
-decreases-loop-i l = length l.bytes - l.i
+invariant-loop-i l = (length l.out ≡ length l.initial.out) × (l.out ≡ over (digits_of (take l.i l.bytes)) l.initial.out)

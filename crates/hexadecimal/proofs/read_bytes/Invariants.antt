@@ -1,16 +1,12 @@
 -- `hexadecimal::read_bytes` meets its contract. At the head of turn i the digits from 2·i on are as
--- good as the whole text, and the first i bytes stand before what they stand for. The measure is
--- what is left. Assumes nothing.
-use Prim.Native.Nat.{◌-◌, ◌*◌, ◌≤◌}
+-- good as the whole text, and the first i bytes stand before what they stand for. Assumes nothing.
+use Prim.Native.Nat.{◌*◌}
 use mathlib.Core.Path.{◌≡◌}
 use mathlib.Core.List.{◌++◌}
-use lib.ListN.{length, take, drop}
+use lib.ListN.{take, drop}
 use Rattle.hexadecimal.specs.Hex.{is_hex, bytes_in}
 use Rattle.hexadecimal.proofs.read_bytes.Given as goal
 
 abbrev pub invariant-loop-i : goal.invariant-loop-i
-invariant-loop-i l = (2 * l.i ≤ length l.text) × (length l.bytes ≡ length l.initial.bytes) × (is_hex (drop (2 * l.i) l.text) ≡ is_hex l.text)
+invariant-loop-i l = (is_hex (drop (2 * l.i) l.text) ≡ is_hex l.text)
     × (take l.i l.bytes ++ bytes_in (drop (2 * l.i) l.text) ≡ bytes_in l.text)
-
-abbrev pub decreases-loop-i : goal.decreases-loop-i
-decreases-loop-i l = length l.text - l.i

@@ -7,8 +7,8 @@ use Rattle.line.proofs.frame.Goals as goal
 pub refuse-requires : goal.refuse-requires
 refuse-requires c = reply-long c.requires.1
 
-pub returns-then-refused-ne-DONE : goal.returns-then-refused-ne-DONE
-returns-then-refused-ne-DONE c = frame_refused _ _ _ _ _ c.if-refused-ne-DONE.true c.refuse.ensures
+pub returns-then-t-ne-DONE : goal.returns-then-t-ne-DONE
+returns-then-t-ne-DONE c = frame_refused _ _ _ _ _ c.if-t-ne-DONE.true c.refuse.ensures
 
 pub slice_bounds-frame-end-2 : goal.slice_bounds-frame-end-2
 slice_bounds-frame-end-2 c = omega (arith, c.lent_len-n.ensures.1, reply-long c.requires.1)
@@ -16,24 +16,24 @@ slice_bounds-frame-end-2 c = omega (arith, c.lent_len-n.ensures.1, reply-long c.
 pub frame-f-requires : goal.frame-f-requires
 frame-f-requires c = c.requires.0
 
-pub refuse-requires-then-answer-ne-DONE : goal.refuse-requires-then-answer-ne-DONE
-refuse-requires-then-answer-ne-DONE c = let n = c.lent_len-n.ensures in let f = c.frame-f in reply-kept c.args.t c.args.tables.now c.args.pictures.now _ c.args.reply.now f.result
-    c.if-refused-ne-DONE.false n.0 n.1 c.requires.1
+pub refuse-requires-then-f-ne-DONE : goal.refuse-requires-then-f-ne-DONE
+refuse-requires-then-f-ne-DONE c = let n = c.lent_len-n.ensures in let f = c.frame-f in reply-kept c.args.t c.args.tables.now c.args.pictures.now _ c.args.reply.now f.result
+    c.if-t-ne-DONE.false n.0 n.1 c.requires.1
     f.ensures.state _ f.ensures.output f.auto.out
 
-pub returns-then-answer-ne-DONE : goal.returns-then-answer-ne-DONE
-returns-then-answer-ne-DONE c = let n = c.lent_len-n.ensures in let f = c.frame-f in frame-stopped c.args.t c.args.tables.now c.args.pictures.now _ c.args.reply.now f.result
-    c.if-refused-ne-DONE.false n.0
-    n.1 c.requires.1 f.ensures.state _ _ c.if-answer-ne-DONE.true
-    c.refuse-then-answer-ne-DONE.ensures
+pub returns-then-f-ne-DONE : goal.returns-then-f-ne-DONE
+returns-then-f-ne-DONE c = let n = c.lent_len-n.ensures in let f = c.frame-f in frame-stopped c.args.t c.args.tables.now c.args.pictures.now _ c.args.reply.now f.result
+    c.if-t-ne-DONE.false n.0
+    n.1 c.requires.1 f.ensures.state _ _ c.if-f-ne-DONE.true
+    c.refuse-then-f-ne-DONE.ensures
 
 pub head-requires : goal.head-requires
 head-requires c = let n = c.lent_len-n.ensures in let f = c.frame-f in reply-kept c.args.t c.args.tables.now c.args.pictures.now _ c.args.reply.now f.result
-    c.if-refused-ne-DONE.false n.0 n.1 c.requires.1
+    c.if-t-ne-DONE.false n.0 n.1 c.requires.1
     f.ensures.state _ f.ensures.output f.auto.out
 
 pub returns : goal.returns
 returns c = let n = c.lent_len-n.ensures in let f = c.frame-f in frame-painted c.args.t c.args.tables.now c.args.pictures.now _ c.args.reply.now f.result
-    c.if-refused-ne-DONE.false n.0
+    c.if-t-ne-DONE.false n.0
     n.1 c.requires.1 f.ensures.state _ f.ensures.output f.auto.out _
-    c.if-answer-ne-DONE.false c.head.ensures
+    c.if-f-ne-DONE.false c.head.ensures

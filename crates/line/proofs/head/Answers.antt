@@ -4,7 +4,5 @@ use Rattle.line.proofs.LineLaws.{head-is}
 use Rattle.line.proofs.head.Goals as goal
 
 pub returns : goal.returns
-returns c = let a = c.args in head-is a.state _ _ _ a.reply.now _
-    c.error_word-e.ensures
-    c.output_width-w.ensures
-    c.output_height-h.ensures c.copy.ensures
+returns c = head-is c.args.state _ _ _ _ _ _ c.args.reply.now _ c.error_word.ensures c.output_width.ensures
+    c.output_height.ensures c.to_be_bytes-e.ensures c.to_be_bytes-w.ensures c.to_be_bytes-h.ensures c.copy.ensures

@@ -1,32 +1,11 @@
 -- `line::run_in` meets its contract: the reply is printed as it was left. Assumes nothing.
-use native.Mathlib.Omega.{arith}
-use mathlib.Core.Path.{sym}
-use lib.Seq.{length-take-le}
+use Rattle.line.specs.Line.{zeros}
 use Rattle.line.proofs.LineLaws.{line-is}
 use Rattle.line.proofs.run_in.Goals as goal
 
-pub slice_bounds-print_line-end : goal.slice_bounds-print_line-end
-slice_bounds-print_line-end c = let k = c.answer-r in sym (length-take-le _ k.new.reply
-    (omega (
-      arith,
-      k.ensures.fits,
-      k.auto.reply,
-      c.no_reply-reply.ensures.0,
-    )))
-
-pub print_line-count-requires : goal.print_line-count-requires
-print_line-count-requires c = let k = c.answer-r in omega (
-  arith,
-  k.ensures.fits,
-  length-take-le k.result.count k.new.reply
-      (omega (
-        arith,
-        k.ensures.fits,
-        k.auto.reply,
-        c.no_reply-reply.ensures.0,
-      )),
-  c.requires.1,
-)
+pub answer-r-requires : goal.answer-r-requires
+unfolding zeros
+answer-r-requires c = (c.requires.0, c.filled-reply.ensures)
 
 pub returns : goal.returns
 returns c =

@@ -2,7 +2,7 @@
 -- each other, and the picture bytes are what is left behind their count. Assumes nothing.
 use mathlib.Core.Path.{refl, ap}
 use Rattle.steps.specs.declared.form.Parts.{Parts}
-use Rattle.steps.proofs.FormLaws.{picture-room, writes-room}
+use Rattle.steps.proofs.FormLaws.{some-parts, picture-room, writes-room}
 use Rattle.line.proofs.LineLaws.{reply-long, work-bad, work-is}
 use Rattle.line.proofs.Arranged.{started-arranged, steps-arranged}
 use Rattle.line.proofs.work.Goals as goal
@@ -10,24 +10,22 @@ use Rattle.line.proofs.work.Goals as goal
 pub refuse-requires : goal.refuse-requires
 refuse-requires c = reply-long c.requires.1
 
-pub returns-then-not-good : goal.returns-then-not-good
-returns-then-not-good c = let a = c.args in work-bad a.state a.tables.now a.b.now _ c.parts_of-parts.ensures.0
-    _ _ c.if-not-good.true c.refuse.ensures
+pub returns-in_default : goal.returns-in_default
+returns-in_default c = let a = c.args in
+    work-bad a.state a.tables.now a.b.now _ _ c.in_default.ensures.value c.refuse.ensures
 
 pub run-t-requires : goal.run-t-requires
-run-t-requires c = (
-  ap (λ (q : Parts). q.writes) c.parts_of-parts.ensures.0,
-  c.parts_of-parts.ensures.1,
-  writes-room _ _ c.parts_of-parts.ensures.0 c.if-not-good.false,
+run-t-requires c = let p = c.in-Some.parts in let e = c.in-Some.ensures in (
+  ap (λ (q : Parts). q.writes) (some-parts c.args.b.now p e.value).1,
+  e.small.0,
+  writes-room c.args.b.now p e.value,
 )
 
 pub slice_bounds-frame-count : goal.slice_bounds-frame-count
-slice_bounds-frame-count c = picture-room c.args.b.now _ c.parts_of-parts.ensures.0
-    c.if-not-good.false
+slice_bounds-frame-count c = picture-room c.args.b.now c.in-Some.parts c.in-Some.ensures.value
 
 pub slice_bounds-frame-start : goal.slice_bounds-frame-start
-slice_bounds-frame-start c = picture-room c.args.b.now _ c.parts_of-parts.ensures.0
-    c.if-not-good.false
+slice_bounds-frame-start c = picture-room c.args.b.now c.in-Some.parts c.in-Some.ensures.value
 
 pub frame-requires : goal.frame-requires
 frame-requires c = let a = c.args in (
@@ -38,9 +36,5 @@ frame-requires c = let a = c.args in (
 )
 
 pub returns : goal.returns
-returns c = let a =
-    c.args in
-    work-is a.state a.tables.now a.b.now _
-    c.parts_of-parts.ensures.0 _ _ _ _ _ _
-    c.if-not-good.false c.run-t.ensures
-    c.start-s.ensures refl c.frame.ensures
+returns c = let a = c.args in work-is a.state a.tables.now a.b.now c.in-Some.parts _ _ _ _ _ _
+    c.in-Some.ensures.value c.run-t.ensures c.start-s.ensures refl c.frame.ensures

@@ -1,6 +1,5 @@
--- `loads::write_run` meets its contract: the invariant is that what is left from item i on gives the whole
--- run; the measure is how many items are left. Assumes nothing.
-use borrow.Author.Rules.{rules}
+-- `loads::write_run` meets its contract: the invariant is that what is left from item i on gives the whole run.
+-- Assumes nothing.
 use native.Mathlib.Omega.{arith}
 use mathlib.Core.Path.{◌≡◌, refl, ap}
 use mathlib.Core.List.{List}
@@ -16,22 +15,21 @@ ends : {p : List ℕ} {answer count : ℕ} (r : Many (List ℕ)) → many p answ
 ends r e = (ap went_of e, ap (λ (m : Many (List ℕ)). m.left) e)
 
 pub loop-i-init : goal.loop-i-init
-loop-i-init c = (refl, omega arith, write-begins _ _ _ refl)
+loop-i-init c = write-begins _ _ _ refl
 
 pub returns-then-register-ge-WORDS : goal.returns-then-register-ge-WORDS
 returns-then-register-ge-WORDS c =
-    let e = write-stop _ _ _ _ _ c.loop-i.invariant.2 _
-    c.loop-i-test.true c.wide-register.ensures.0 c.if-register-ge-WORDS.true in
-    let r =
-    ends _ e in
-    record { went = r.0; pending = r.1 }
+    let e = write-stop _ _ _ _ _ c.loop-i.invariant _ c.loop-i-test.true c.from-register.ensures c.if-register-ge-WORDS.true in
+    let r = ends _ e in
+    record { went = rw c.number.ensures r.0; pending = r.1 }
 
 pub loop-i-preserved : goal.loop-i-preserved
-loop-i-preserved c = search (write-turn, rules)
+loop-i-preserved c =
+    write-turn _ _ _ _ _ c.loop-i.invariant _ c.loop-i-test.true c.from-register.ensures _ (omega arith)
+    c.word.ensures.0
 
 pub returns : goal.returns
 returns c =
-    let e = write-end _ _ _ _ _ c.loop-i.invariant.2 c.loop-i.invariant.1 c.loop-i-test.false in
-    let r =
-    ends _ e in
+    let e = write-end _ _ _ _ _ c.loop-i.invariant (omega arith) (omega arith) in
+    let r = ends _ e in
     record { went = r.0; pending = r.1 }

@@ -35,8 +35,8 @@ returns-clause-held g c =
     let long : length l.text ≡ image_kept = omega arith in
     pass-end c.args.block.now l.text _ l.held l.at long c.loop-at-test.false l.invariant.opens
 
-pub returns-in_err-write_front-clause-failed : goal.returns-in_err-write_front-clause-failed
-returns-in_err-write_front-clause-failed g c =
+pub returns-in_err-write_all-clause-failed : goal.returns-in_err-write_all-clause-failed
+returns-in_err-write_all-clause-failed g c =
     let l = c.loop-at in
     let f = c.feed-step in
     let p = err_from_is_err_and c.from_residual.result c.from_residual.ensures.1 in

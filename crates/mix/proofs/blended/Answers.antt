@@ -17,23 +17,5 @@ module _ (c : goal.Start) where
       ≡ blend_of c.args.a c.args.over c.args.under
   divided = blend_of-shifted c.args.a c.args.over c.args.under (omega arith) (omega arith) (omega arith)
 
-pub overflow_mul-t : goal.overflow_mul-t
-overflow_mul-t c = omega (arith, bound c)
-
-pub overflow_mul-t-2 : goal.overflow_mul-t-2
-overflow_mul-t-2 c = omega (arith, bound c)
-
-pub overflow_add-t : goal.overflow_add-t
-overflow_add-t c = omega (arith, bound c)
-
-pub overflow_add-t-2 : goal.overflow_add-t-2
-overflow_add-t-2 c = omega (arith, bound c)
-
-pub overflow_add-result : goal.overflow_add-result
-overflow_add-result c = omega (arith, bound c)
-
-pub overflow_add-result-2 : goal.overflow_add-result-2
-overflow_add-result-2 c = omega (arith, narrow c)
-
 pub returns : goal.returns
 returns c = omega (arith, narrow c, divided c)

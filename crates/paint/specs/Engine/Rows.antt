@@ -1,10 +1,10 @@
 -- What the workers of `src/` do, on the way to `Rattle.frames.specs.Frame`: said, as a line's workers have
 -- it, of every scene that lends their buffers. No definition of the document rests on these. Assumes nothing.
-use Rattle.std.specs.Prelude.{ℕ, ◌+◌, ◌*◌, ◌/◌, ◌<◌, ◌≤◌, ◌≡◌, Bool, true, List, ltb, Float, length, get_or}
+use Rattle.std.specs.Prelude.{ℕ, ◌+◌, ◌*◌, ◌/◌, ◌<◌, ◌≤◌, ◌≡◌, Bool, true, List, ltb, Float, length, get_or, Option, Some}
 use Rattle.lists.specs.Choice.{pick}
 use Rattle.lists.specs.Tab.{each}
-use Rattle.words.specs.declared.fields.Ground.{Ground}
-use Rattle.words.specs.Fields.{shown_of, width_of}
+use Rattle.mix.specs.declared.Ground.{Ground}
+use Rattle.words.specs.Fields.{shown_of, width_of, grounds_of}
 use Rattle.tables.specs.Geometry.{instructions}
 use Rattle.span.specs.Engine.Tints.{Grounded}
 use Rattle.frames.specs.Scene.{Scene}
@@ -14,12 +14,9 @@ use Rattle.frames.specs.Line.{line_len}
 use Rattle.plan.specs.declared.Part.{Part}
 use Rattle.plan.specs.declared.Plan.{Plan}
 use Rattle.plan.specs.declared.Step.{Step}
-use Rattle.plan.specs.Engine.Plan.{blank_step, OfPart}
-use Rattle.scanline.specs.Engine.Lines.{Lent, Banked, Extended, Scratch, band_line, Lends}
-
--- the most pixels of a line, whose width is a field of 12 bits
-abbrev pub most_pixels : ℕ
-most_pixels = 4096
+use Rattle.plan.specs.Engine.Plan.{blank_step, OfPart, OfLayers}
+use Rattle.scanline.specs.declared.Painting.{Painting}
+use Rattle.scanline.specs.Engine.Lines.{Lent, Banked, Extended, Scratch, OfLine, band_line, line_to, under_byte, Lends}
 
 -- ---- bytes
 
@@ -73,17 +70,26 @@ pub record Extends (tables : List ℕ) (t : Step) (at : ℕ) (e e' : List ℕ) :
 abbrev pub Under : Ground → Step → List ℕ → Type 0
 Under g t under = Grounded t.palette t.layer.global t.alpha g.c0 g.c1 g.c2 under
 
+-- a background, where there is one, is that of the words
+abbrev pub Backed : Option Ground → List ℕ → Type 0
+Backed o w = (g : Ground) → o ≡ Some g → g ≡ grounds_of w
+
 -- what the rows of a plan's layers are made with, on lines of so many bytes
-pub record Prepared (bytes : ℕ) (indexes row tables extents under : List ℕ) (g : Ground) (p : Plan) : Type 0 where
+pub record Prepared (bytes : ℕ) (indexes row : List ℕ) (q : Painting) (p : Plan) : Type 0 where
   pub scratch : Scratch bytes indexes row
-  pub lists : AllExtended tables extents p
-  pub first : Under g (get_or p.steps 0 blank_step) under
+  pub lists : AllExtended q.tables.now q.extents.now p
+  pub first : (g : Ground) → q.ground ≡ Some g → Under g (get_or p.steps 0 blank_step) q.under.now
 
 -- ---- what a worker does, in every such scene
 
 -- the scene has these words, tables, pictures and floats
 abbrev pub Holds : List ℕ → List ℕ → List ℕ → List Float → Scene → Type 0
 Holds w tables pictures floats s = (s.words ≡ w) × Lends tables pictures floats s
+
+-- line y afterwards has its ground, and over that the first k layers of the plan
+pub record LaidTo (Of : Scene → Type 0) (o : Option Ground) (p : Plan) (k y : ℕ) (line line' : List ℕ) : Type 0 where
+  pub over : (s : Scene) (l : List ℕ) → Of s → OfLine s line → OfLayers s l p
+      → line' ≡ each (line_to s y l k) (each (under_byte o) line)
 
 -- line y is one of the part's
 pub record OnLines (part : Part) (y : ℕ) : Type 0 where

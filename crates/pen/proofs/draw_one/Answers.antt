@@ -8,7 +8,7 @@ use Rattle.pen.proofs.draw_one.Goals.{in-10, in-12, in-14, in_default, in-0-to-9
 pub returns-then-text : goal.returns-then-text
 returns-then-text c =
     let a = c.args in
-    let met : Under a.ins.now a.k a.v c.opcode.result a.line.now c.match-opcode.line c.match-opcode.text =
+    let met : Under a.banks.now.list.now a.k a.v c.opcode.result a.line.now c.match-opcode.line c.match-opcode.text =
     elim c.match-opcode.branch [
       | in-10 w ↦ under-box _ _ _ _ _ w.in-10.is w.draw_box.ensures w.line-is w.text-is
       | in-12 w ↦ under-text _ _ _ _ _ w.in-12.is w.line-is w.text-is
@@ -25,7 +25,7 @@ returns-then-text c =
 pub returns-else-text : goal.returns-else-text
 returns-else-text c =
     let a = c.args in
-    let met : Under a.ins.now a.k a.v c.opcode.result a.line.now c.match-opcode.line c.match-opcode.text =
+    let met : Under a.banks.now.list.now a.k a.v c.opcode.result a.line.now c.match-opcode.line c.match-opcode.text =
     elim c.match-opcode.branch [
       | in-10 w ↦ under-box _ _ _ _ _ w.in-10.is w.draw_box.ensures w.line-is w.text-is
       | in-12 w ↦ under-text _ _ _ _ _ w.in-12.is w.line-is w.text-is

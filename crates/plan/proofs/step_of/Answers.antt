@@ -15,15 +15,15 @@ unfolding kind_len bank_bytes
 returns c = let w = c.screen_width-width.ensures in let l = c.layer_of-layer.ensures in record {
   number = refl;
   layer = l;
-  left = rw (l, w) at c.least-left.ensures;
-  wide = rw (c.least-left.ensures, l, w)
-      at c.least-wide.ensures;
+  left = rw (l, w) at c.min-left.ensures;
+  wide = rw (c.min-left.ensures, l, w)
+      at c.min-wide.ensures;
   alpha = rw l at c.fade-alpha.ensures;
-  start = c.requires.3;
+  start = c.requires.1;
   glyph = refl;
   list = c.active_at-list.ensures.0;
   strings = c.active_at-strings.ensures.0;
   font = c.active_at-font.ensures.0;
-  end = c.requires.4;
+  end = c.requires.2;
   palette = rw c.active_at-colours.ensures.0 at c.palette_at-palette.ensures;
 }

@@ -1,12 +1,8 @@
--- `river::put_ones` meets its contract: the row begins with the floats' bytes up to i. The measure is what is left.
--- Assumes nothing.
-use Prim.Native.Nat.{◌-◌}
-use lib.ListN.{length}
+-- `river::put_ones` meets its contract: the row begins with the bytes of the floats of the first k pixels. Assumes
+-- nothing.
+use Prim.Native.Nat.{◌*◌}
 use Rattle.river.specs.Engine.Steps.{Front}
 use Rattle.river.proofs.put_ones.Given as goal
 
-abbrev pub invariant-loop-i : goal.invariant-loop-i
-invariant-loop-i l = Front l.floats l.row l.i
-
-abbrev pub decreases-loop-i : goal.decreases-loop-i
-decreases-loop-i l = length l.initial.row - l.i
+abbrev pub invariant-loop-k : goal.invariant-loop-k
+invariant-loop-k l = Front l.floats l.row (4 * l.k)

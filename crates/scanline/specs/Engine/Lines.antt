@@ -1,13 +1,13 @@
 -- What the workers of a line ask and do, on the way to `Rattle.frames.specs.Band`. A worker asks for room in
 -- the buffers that it is lent, and is told of no scene: what it does is said of every scene that lends those
 -- buffers and whose layer the step is. No definition of the document rests on these. Assumes nothing.
-use Rattle.std.specs.Prelude.{ℕ, ◌+◌, ◌-◌, ◌*◌, ◌/◌, ◌%◌, ◌<◌, ◌≤◌, ◌≡◌, Bool, true, false, List, length, get_or, take, drop, eqb, Float}
+use Rattle.std.specs.Prelude.{ℕ, ◌+◌, ◌-◌, ◌*◌, ◌/◌, ◌%◌, ◌<◌, ◌≤◌, ◌≡◌, Bool, true, false, List, length, get_or, take, drop, eqb, Float, Option, Some, None}
 use Rattle.lists.specs.Choice.{pick, both}
 use Rattle.lists.specs.Steps.{through}
 use Rattle.lists.specs.Tab.{tab, each}
 use Rattle.mix.specs.Pixel.{pixel_len, alpha_place, opaque}
 use Rattle.profiles.specs.Profile.{bits_of}
-use Rattle.words.specs.declared.fields.Ground.{Ground}
+use Rattle.mix.specs.declared.Ground.{Ground}
 use Rattle.words.specs.Fields.{width_of}
 use Rattle.words.specs.Pictures.{pictures_len}
 use Rattle.tables.specs.Geometry.{tables_len, instructions, list_len, strings_len, font_len}
@@ -22,6 +22,7 @@ use Rattle.frames.specs.Band.{pixel_at}
 use Rattle.plan.specs.declared.Step.{Step}
 use Rattle.plan.specs.declared.Plan.{Plan}
 use Rattle.plan.specs.Engine.Plan.{blank_step, is_made, part_at, OfLayer, OfFirst}
+use Rattle.scanline.specs.declared.Painting.{Painting}
 
 -- ---- what a worker asks
 
@@ -55,6 +56,10 @@ pub record Drawable (tables extents : List ℕ) (at : ℕ) (t : Step) : Type 0 w
 -- the part of a line that a step paints lies on it, where the line has so many bytes
 abbrev pub OnLine : Step → ℕ → Type 0
 OnLine t bytes = pixel_len * t.left + pixel_len * t.wide ≤ bytes
+
+-- it has so many bytes
+abbrev pub OnPart : Step → ℕ → Type 0
+OnPart t bytes = pixel_len * t.wide ≡ bytes
 
 -- where a picture of a step ends in its buffer
 abbrev pub picture_end : Step → ℕ
@@ -138,6 +143,11 @@ band_line s a b y i p =
 unfoldable pub ground_byte : Ground → Bool → ℕ → ℕ → ℕ
 ground_byte g fresh i p = pick fresh (rows.solid_byte g.c0 g.c1 g.c2 i) p
 
+-- the same, of the ground that a fresh frame has and another has not
+unfoldable pub under_byte : Option Ground → ℕ → ℕ → ℕ
+under_byte None i p = p
+under_byte (Some g) i p = ground_byte g true i p
+
 -- ---- what a worker does, in every such scene
 
 -- the scene has these pictures
@@ -158,10 +168,20 @@ pub record Lends (tables pictures : List ℕ) (floats : List Float) (s : Scene) 
   pub shows : Shows pictures s
   pub flows : Flows floats s
 
+-- those that a painting reads
+abbrev pub LentBy : Painting → Scene → Type 0
+LentBy p = Lends p.tables.now p.pictures.now p.floats.now
+
 -- a row holds the step's pixels of line y
 pub record RowMade (Of : Scene → Type 0) (t : Step) (y : ℕ) (row : List ℕ) : Type 0 where
   pub own : (s : Scene) → Of s → OfLayer s t → (u c : ℕ) → u < t.wide → c < pixel_len
       → get_or row (pixel_len * u + c) 0 ≡ own_at s t.number (y - t.layer.y) u c
+
+-- such a row lies over a part of a line, at the step's alpha or each pixel at its own
+pub record LaidOver (Of : Scene → Type 0) (t : Step) (y : ℕ) (part part' : List ℕ) : Type 0 where
+  pub row : List ℕ
+  pub made : RowMade Of t y row
+  pub over : part' ≡ each (over_byte row t.layer.global t.alpha) part
 
 -- the line is as long as the scene's are
 abbrev pub OfLine : Scene → List ℕ → Type 0

@@ -3,8 +3,5 @@ use mathlib.Core.Path.{◌∙◌}
 use Rattle.span.proofs.OverLaws.{over-own}
 use Rattle.span.proofs.lay_either.Goals as goal
 
-pub returns-then-global : goal.returns-then-global
-returns-then-global c = rw c.if-global.true c.lay_flat.ensures
-
 pub returns : goal.returns
 returns c = rw c.if-global.false (c.lay.ensures ∙ over-own _ _ _)

@@ -4,8 +4,5 @@ use borrow.Author.Rules.{rules}
 use Rattle.span.proofs.GroundLaws.{lay-each}
 use Rattle.span.proofs.lay_flat.Goals as goal
 
-pub returns-then-alpha-eq0 : goal.returns-then-alpha-eq0
-returns-then-alpha-eq0 c = rw (← c.fill.ensures) c.blend_flat.ensures
-
 pub returns : goal.returns
 returns c = search (lay-each, rules)

@@ -1,16 +1,9 @@
 -- `span::lay_if_opaque` meets its contract: the opaque blocks are laid, and the rest, where it is opaque too, is filled
 -- and blended. Assumes nothing.
-use borrow.Author.Rules.{rules}
 use native.Mathlib.Omega.{arith}
 use Rattle.span.proofs.GroundLaws.{lay-each}
 use Rattle.span.proofs.HideLaws.{opaque-all}
 use Rattle.span.proofs.lay_if_opaque.Goals as goal
-
-pub returns-then-not-is_opaque_at_ends : goal.returns-then-not-is_opaque_at_ends
-returns-then-not-is_opaque_at_ends c = λ e. absurd (search rules)
-
-pub returns-then-not-is_opaque_from : goal.returns-then-not-is_opaque_from
-returns-then-not-is_opaque_from c = λ e. absurd (search rules)
 
 pub returns : goal.returns
 returns c = λ e.

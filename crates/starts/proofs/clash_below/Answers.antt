@@ -1,20 +1,9 @@
--- `starts::clash_below` meets its contract: the invariant is that none before m refuses; the measure
--- is what is left. Assumes nothing.
-use borrow.Author.Rules.{rules}
+-- `starts::clash_below` meets its contract: it leaves at the first refusal. Assumes nothing.
 use Rattle.words.specs.Check.{clash_below}
-use Rattle.words.proofs.PassedLaws.{passed_none, passed-more, passed-stops, passed-all}
+use Rattle.starts.proofs.Exits.{stops}
 use Rattle.starts.proofs.clash_below.Goals as goal
 
-pub loop-m-init : goal.loop-m-init
-loop-m-init c = search (passed_none, rules)
-
-pub returns-then-refusal-ne-DONE : goal.returns-then-refusal-ne-DONE
+pub returns-in_err-clash : goal.returns-in_err-clash
 unfolding clash_below
-returns-then-refusal-ne-DONE c = search (passed-stops, rules)
-
-pub loop-m-preserved : goal.loop-m-preserved
-loop-m-preserved c = search (passed-more, rules)
-
-pub returns : goal.returns
-unfolding clash_below
-returns c = search (passed-all, rules)
+returns-in_err-clash c =
+    stops _ _ _ _ _ c.loop-m.invariant c.loop-m-test.true c.in_err-clash.ensures c.from_residual.ensures.1

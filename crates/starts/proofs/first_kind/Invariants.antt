@@ -1,12 +1,8 @@
--- `starts::first_kind` meets its contract: the invariant is that none before n refuses; the measure
--- is what is left. Assumes nothing.
-use Prim.Native.Nat.{◌-◌}
+-- `starts::first_kind` meets its contract: the invariant is that none before n refuses. Assumes nothing.
+use mathlib.Core.Path.{◌≡◌}
+use Rattle.lists.specs.Runs.{first_of}
 use Rattle.words.specs.Check.{kind_at}
-use Rattle.words.proofs.PassedLaws.{Passed}
 use Rattle.starts.proofs.first_kind.Given as goal
 
 abbrev pub invariant-loop-n : goal.invariant-loop-n
-invariant-loop-n l = Passed 8 (kind_at l.floats l.w) l.n
-
-abbrev pub decreases-loop-n : goal.decreases-loop-n
-decreases-loop-n l = 8 - l.n
+invariant-loop-n l = first_of l.n (kind_at l.floats l.w) ≡ 0

@@ -3,10 +3,10 @@
 use Rattle.steps.proofs.StepLaws.{run-refused, puts-run}
 use Rattle.steps.proofs.puts.Goals as goal
 
-pub returns-then-answer-ne-DONE : goal.returns-then-answer-ne-DONE
-returns-then-answer-ne-DONE c = run-refused _ _ c.if-answer-ne-DONE.true
+pub returns-then-first-ne-DONE : goal.returns-then-first-ne-DONE
+returns-then-first-ne-DONE c = run-refused _ _ c.if-first-ne-DONE.true
 
 pub returns : goal.returns
 returns c = let a = c.args in let ran = c.put_run-ran.ensures in puts-run a.first a.tables.now _ a.n a.from a.b.now _
-    c.if-answer-ne-DONE.false
+    c.if-first-ne-DONE.false
     c.requires ran.state ran.tables

@@ -1,11 +1,12 @@
--- `steps::select` meets its contract: left out after a refusal, else the call. Assumes
--- nothing.
+-- `steps::select` meets its contract: left out after a refusal, else the call. Assumes nothing.
 use borrow.Author.Rules.{rules}
-use Rattle.steps.proofs.StepLaws.{step_of-refused, select-done}
+use mathlib.Core.Path.{◌≡◌, refl}
+use Rattle.display.specs.State.{select_of}
+use Rattle.steps.proofs.StepLaws.{step_of-unless}
 use Rattle.steps.proofs.select.Goals as goal
 
-pub returns-then-answer-ne-DONE : goal.returns-then-answer-ne-DONE
-returns-then-answer-ne-DONE c = λ l. search (step_of-refused, rules)
-
 pub returns : goal.returns
-returns c = λ l. search (select-done, rules)
+returns c = let u = c.unless_refused in λ l. step_of-unless _ _ l _ u.ensures.refused (λ z.
+    let p = u.ensures.stepped z in
+    let e : u.result ≡ select_of c.args.t.state c.args.selection = search rules in
+    rw e refl)

@@ -1,21 +1,18 @@
 -- `steps::writes` meets its contract: what is left to write from here on comes to the same
--- as the whole. The measure is what is left. Assumes nothing.
-use borrow.Author.Rules.{rules}
+-- as the whole. Assumes nothing.
 use mathlib.Core.Path.{refl}
+use native.Mathlib.Numerals.{unary_clauses}
 use Rattle.steps.specs.Steps.{midway}
 use Rattle.steps.proofs.StepLaws.{writes-turn, writes_end}
 use Rattle.steps.proofs.writes.Goals as goal
 
-pub loop-left-init : goal.loop-left-init
-loop-left-init c = (search rules, λ l. refl)
+pub loop-i-init : goal.loop-i-init
+loop-i-init c = λ l. simp unary_clauses refl
 
-pub loop-left-preserved : goal.loop-left-preserved
-loop-left-preserved c = let l = c.loop-left in let b = c.args.b.now in (
-  search rules,
-  λ z. writes-turn b l.left l.at _ _ _ _ _ c.loop-left-test.true (l.invariant.1 z)
-      c.byte_at.ensures.0 c.word_at.ensures.0 (c.write-t.ensures z),
-)
+pub loop-i-preserved : goal.loop-i-preserved
+loop-i-preserved c = λ z. writes-turn c.args.b.now c.args.n c.loop-i.i c.args.from _ _ _ _ _ c.loop-i-test.true
+    (c.loop-i.invariant z) c.byte_at-register.ensures.0 c.word_at-value.ensures.0 (c.write-t.ensures z)
 
 pub returns : goal.returns
-returns c = let l = c.loop-left in λ z. writes_end c.args.b.now l.left l.at (midway l.t z) (midway l.t z) _
-    c.loop-left-test.false (l.invariant.1 z)
+returns c = λ z. writes_end c.args.b.now c.args.n c.loop-i.i c.args.from (midway c.loop-i.t z) (midway c.loop-i.t z) _
+    c.loop-i-test.false (c.loop-i.invariant z)

@@ -1,8 +1,13 @@
 -- What `src/form.rt` finds of a line's form. Assumes nothing.
-use Rattle.std.specs.Prelude.{ℕ, List}
+use Rattle.std.specs.Prelude.{List, ℕ, Option, Some, None}
+use Rattle.lists.specs.Choice.{choose}
 use Rattle.steps.specs.declared.form.Parts.{Parts}
 use Rattle.steps.specs.Form.{writes_place, picture_place, is_formed}
 
+-- where the parts of a line stand
+abbrev pub places_of : List ℕ → Parts
+places_of b = record { writes = writes_place b; picture = picture_place b }
+
 -- whether it is good, and where its parts stand
-abbrev pub parts_of : List ℕ → Parts
-parts_of b = record { good = is_formed b; writes = writes_place b; picture = picture_place b }
+abbrev pub parts_of : List ℕ → Option Parts
+parts_of b = choose (is_formed b) (Some (places_of b)) None

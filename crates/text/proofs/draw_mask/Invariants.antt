@@ -10,8 +10,8 @@ use Rattle.text.proofs.draw_mask.Given as goal
 
 abbrev pub invariant-loop-rest : goal.invariant-loop-rest
 invariant-loop-rest l = (l.rest < 256)
-    × (each (row_after (mask_ink l.rest l.colour) glyph_columns l.z l.x) l.line
-    ≡ each (row_after (mask_ink l.mask l.colour) glyph_columns l.z l.x) l.initial.line)
+    × (each (row_after (mask_ink l.rest l.colour) glyph_columns l.cell.z l.cell.x) l.line
+    ≡ each (row_after (mask_ink l.mask l.colour) glyph_columns l.cell.z l.cell.x) l.initial.line)
 
 abbrev pub decreases-loop-rest : goal.decreases-loop-rest
 decreases-loop-rest l = l.rest

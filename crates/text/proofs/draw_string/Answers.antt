@@ -1,15 +1,13 @@
 -- `draw_string` meets its contract: before each turn i characters are drawn, the next cell begins
 -- where they end, and what is left of the string gives how many it shows; from the line's end on it
--- changes nothing. The measure is the characters left. Assumes nothing.
-use mathlib.Core.Path.{◌≡◌, refl, sym, ap, ◌∙◌}
+-- changes nothing. Assumes nothing.
+use mathlib.Core.Path.{◌≡◌, refl, sym, ◌∙◌}
 use mathlib.Core.List.{List}
 use Prim.Native.Nat.{ℕ, ◌+◌, ◌-◌, ◌*◌, ◌<◌}
 use native.Mathlib.Nat.{add-mul}
 use native.Mathlib.Omega.{arith}
-use lib.ListN.{length}
 use borrow.Author.Rules.{rules}
 use Rattle.lists.specs.Zero.{zero_from}
-use Rattle.lists.proofs.Tab.{length-each}
 use Rattle.lists.proofs.Zero.{zero-passes}
 use Rattle.tables.specs.Geometry.{string_len}
 use Rattle.draw.specs.Text.{glyph_columns, character, characters_of}
@@ -18,16 +16,10 @@ use Rattle.text.proofs.draw_string.Goals as goal
 
 pub loop-i-init : goal.loop-i-init
 unfolding characters_of
-loop-i-init c = (omega arith, omega arith, omega arith, refl, search (row-line-none, rules))
-
-pub shape_of-line-then-line-at : goal.shape_of-line-then-line-at
-shape_of-line-then-line-at c = ap length c.loop-i.invariant.4 ∙ length-each _ _
+loop-i-init c = (omega arith, omega arith, refl, search (row-line-none, rules))
 
 pub returns-then-line-at : goal.returns-then-line-at
 returns-then-line-at c = search (string-past, rules)
-
-pub shape_of-line-then-c-eq0 : goal.shape_of-line-then-c-eq0
-shape_of-line-then-c-eq0 c = ap length c.loop-i.invariant.4 ∙ length-each _ _
 
 pub returns-then-c-eq0 : goal.returns-then-c-eq0
 returns-then-c-eq0 c = let h : c.loop-i.i < string_len = omega arith in search (string-stops, rules)
@@ -45,10 +37,7 @@ string-passes strings n i h ne left = sym (zero-passes string_len (character str
 pub loop-i-preserved : goal.loop-i-preserved
 loop-i-preserved c = let h : c.loop-i.i < string_len = omega arith
     in
-    (omega arith, omega arith, search (next-at, rules), search (string-passes, rules), search (string-more, rules))
-
-pub shape_of-line : goal.shape_of-line
-shape_of-line c = ap length c.loop-i.invariant.4 ∙ length-each _ _
+    (omega arith, search (next-at, rules), search (string-passes, rules), search (string-more, rules))
 
 pub returns : goal.returns
 returns c = search (string-ends, rules)

@@ -1,8 +1,6 @@
 -- `draw_text` meets its contract: the words read are the instruction's, a row above or below the
 -- text is left as it is, and so is every row of a string number above 7. Assumes nothing.
-use native.Mathlib.Omega.{arith}
 use borrow.Author.Rules.{rules}
-use Rattle.text.proofs.TextLaws.{row_lt}
 use Rattle.text.proofs.LineLaws.{text-line-above, text-line-below, text-line-number, text-line}
 use Rattle.text.proofs.draw_text.Goals as goal
 
@@ -14,13 +12,6 @@ returns-then-y-z c = search (text-line-below, rules)
 
 pub returns-then-n-ge-STRING_COUNT : goal.returns-then-n-ge-STRING_COUNT
 returns-then-n-ge-STRING_COUNT c = search (text-line-number, rules)
-
-pub draw_string-requires : goal.draw_string-requires
-draw_string-requires c =
-    record {
-      bits_nonzero = search rules;
-      n_lt_string_count = (omega arith, search (row_lt, rules), omega arith, omega arith, omega arith, omega arith);
-    }
 
 pub returns : goal.returns
 returns c = search (text-line, rules)

@@ -1,15 +1,9 @@
--- `colours::rows::expand16` meets its contract: the loop has written the pixels of the first 4 k indexes,
--- and a turn writes four more; the measure is what is left. Assumes nothing.
-use mathlib.Core.Path.{◌≡◌}
-use Prim.Native.Nat.{◌+◌, ◌-◌, ◌*◌, ◌≤◌}
-use lib.ListN.{length}
+-- `colours::rows::expand16` meets its contract: the loop has written the pixels of the first 4 k indexes, and a turn
+-- writes four more. Assumes nothing.
+use Prim.Native.Nat.{◌+◌, ◌*◌}
 use Rattle.sixteen.specs.Engine.Lanes.{Part, anew}
 use Rattle.colours.specs.Rows.{colour_byte}
 use Rattle.colours.proofs.rows.expand16.Given as goal
 
 abbrev pub invariant-loop-k : goal.invariant-loop-k
-invariant-loop-k l = (l.k ≤ 4) × (length l.row ≡ length l.initial.row)
-    × Part l.row l.initial.row (anew (colour_byte l.line l.palette)) (4 * l.from) (4 * (l.from + 4 * l.k))
-
-abbrev pub decreases-loop-k : goal.decreases-loop-k
-decreases-loop-k l = 4 - l.k
+invariant-loop-k l = Part l.row l.initial.row (anew (colour_byte l.line l.palette)) (4 * l.from) (4 * (l.from + 4 * l.k))

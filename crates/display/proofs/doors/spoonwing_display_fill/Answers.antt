@@ -1,27 +1,13 @@
--- `display::doors::spoonwing_display_fill` meets its contract: a wrong length is the first case, and else
--- the state is taken apart, the call made and the state put back. Assumes nothing.
-use Rattle.display.proofs.DoorLaws.{door-length, door-bare, buffer-length, buffer-bare}
-use Rattle.display.proofs.BareLaws.{fill-blind, fill-bytes-blind}
+-- `display::doors::spoonwing_display_fill` meets its contract: the call does not see what is held for painting.
+-- Assumes nothing.
+use Rattle.display.proofs.BareLaws.{fill-blind}
+use Rattle.display.proofs.DoorCases.{bare-answer, bare-state}
 use Rattle.display.proofs.doors.spoonwing_display_fill.Goals as goal
 
-pub returns-then-state-ne-STATE_LEN : goal.returns-then-state-ne-STATE_LEN
-returns-then-state-ne-STATE_LEN c =
-    let r = door-length _ _ c.if-state-ne-STATE_LEN.true in
-    record {
-      answer = r.0;
-      state = r.1;
-      output = buffer-length _ _ _ c.if-state-ne-STATE_LEN.true;
-    }
+pub returns-clause-answer : goal.returns-clause-answer
+returns-clause-answer c =
+    bare-answer _ _ _ _ c.if-state-ne-STATE_LEN.false _ c.given.ensures.answer c.fill.ensures.state c.bare.ensures (fill-blind _)
 
-pub returns : goal.returns
-returns c =
-    let long = c.if-state-ne-STATE_LEN.false in
-    let e = c.bare.ensures in
-    let told = c.fill.ensures in
-    let r = door-bare _ _ _ (fill-blind _) _ _ _ _ long e told.state c.given.ensures.answer
-    c.given.ensures.state in
-    record {
-      answer = r.0;
-      state = r.1;
-      output = buffer-bare _ _ _ (fill-bytes-blind _) _ _ long e told.output;
-    }
+pub returns-clause-state : goal.returns-clause-state
+returns-clause-state c =
+    bare-state _ _ _ _ c.if-state-ne-STATE_LEN.false _ c.given.ensures.state c.fill.ensures.state c.bare.ensures (fill-blind _)

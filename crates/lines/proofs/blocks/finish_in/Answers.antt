@@ -9,18 +9,18 @@ pub returns-then-n-eq0 : goal.returns-then-n-eq0
 returns-then-n-eq0 c =
     let r =
     finish-none c.args.going c.args.tables.now c.args.text.now _ c.requires.0
-    (omega (arith, c.least-n.ensures)) _ c.if-n-eq0.true in
+    (omega (arith, c.min-n.ensures)) _ c.if-n-eq0.true in
     record { value = r.0; tables_after = r.1.0; out_after = r.1.1.0; count_le_most_printed = r.1.1.1 }
 
 pub slice_bounds-run_in-end : goal.slice_bounds-run_in-end
-slice_bounds-run_in-end c = sym (length-take-le _ c.args.text.now (omega (arith, c.requires.0, c.least-n.ensures)))
+slice_bounds-run_in-end c = sym (length-take-le _ c.args.text.now (omega (arith, c.requires.0, c.min-n.ensures)))
 
 pub returns : goal.returns
 returns c =
     let a = c.args in
     let r =
     finish-some a.going a.tables.now a.text.now _ c.requires.0
-    (omega (arith, c.least-n.ensures)) _ _ _
+    (omega (arith, c.min-n.ensures)) _ _ _
     _ c.if-n-eq0.false
     (let f = c.run_in.ensures in (f.value, (f.tables_after, (f.out_after, f.count_le_most_printed)))) in
     record { value = r.0; tables_after = r.1.0; out_after = r.1.1.0; count_le_most_printed = r.1.1.1 }

@@ -1,6 +1,6 @@
 -- `mend::line::put_changes` meets its contract: at the head of turn i the first i changed words stand behind
--- what was there. The measure is what is left. Assumes nothing.
-use Prim.Native.Nat.{◌+◌, ◌-◌, ◌*◌, ◌≤◌}
+-- what was there. Assumes nothing.
+use Prim.Native.Nat.{◌+◌, ◌*◌}
 use mathlib.Core.Path.{◌≡◌}
 use mathlib.Core.List.{◌++◌}
 use lib.ListN.{length, take}
@@ -9,8 +9,5 @@ use Rattle.mend.specs.Line.{listed_words}
 use Rattle.mend.proofs.line.put_changes.Given as goal
 
 abbrev pub invariant-loop-i : goal.invariant-loop-i
-invariant-loop-i l = (l.i ≤ l.count) × (l.n ≡ l.from + change_len * l.i) × (length l.reply ≡ length l.initial.reply)
+invariant-loop-i l = (l.n ≡ l.from + change_len * l.i) × (length l.reply ≡ length l.initial.reply)
     × (take l.n l.reply ≡ take l.from l.initial.reply ++ listed_words l.i l.list)
-
-abbrev pub decreases-loop-i : goal.decreases-loop-i
-decreases-loop-i l = l.count - l.i

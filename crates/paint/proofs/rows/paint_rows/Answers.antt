@@ -1,42 +1,23 @@
 -- `paint::rows::paint_rows` meets its contract: the rooms are as long as the longest line; where none is made no
--- layer asks for one. Assumes nothing.
-use mathlib.Core.Bool.{true≢false}
-use mathlib.Core.Path.{sym, ◌∙◌}
+-- layer asks for one; and the ground is the fresh one's. Assumes nothing.
+use mathlib.Core.Path.{◌≡◌, ap, ◌∙◌}
+use Prim.Native.Nat.{ℕ}
 use native.Mathlib.Omega.{arith}
+use lib.ListN.{length, length-replicate}
 use Rattle.paint.proofs.rows.paint_rows.Goals as goal
-
-pub extents_of-extents-requires : goal.extents_of-extents-requires
-extents_of-extents-requires c =
-    let fit = c.requires.all_fit in
-    record { few = fit.few; banked = λ j lt. (fit.fit j lt).banked }
-
-pub lay_lines-requires-clause-out_len : goal.lay_lines-requires-clause-out_len
-lay_lines-requires-clause-out_len c =
-    c.requires.out_len
-
-pub lay_lines-requires-clause-all_fit : goal.lay_lines-requires-clause-all_fit
-lay_lines-requires-clause-all_fit c =
-    c.requires.all_fit
-
-pub lay_lines-requires-clause-prepared : goal.lay_lines-requires-clause-prepared
-lay_lines-requires-clause-prepared c =
-    λ drawn. record {
-      scratch = record {
-        wide = omega (arith, c.index_room-indexes.ensures);
-        long = omega (arith, c.pixel_room-row.ensures);
-      };
-      lists = c.extents_of-extents.ensures;
-      first = c.under_first-under.ensures;
-    }
-
-pub lay_lines-requires-2-clause-out_len : goal.lay_lines-requires-2-clause-out_len
-lay_lines-requires-2-clause-out_len c =
-    c.requires.out_len
-
-pub lay_lines-requires-2-clause-all_fit : goal.lay_lines-requires-2-clause-all_fit
-lay_lines-requires-2-clause-all_fit c =
-    c.requires.all_fit
 
 pub lay_lines-requires-2-clause-prepared : goal.lay_lines-requires-2-clause-prepared
 lay_lines-requires-2-clause-prepared c =
-    λ drawn. absurd (true≢false (sym drawn ∙ c.if-plan.false))
+    let indexes : length c.filled-indexes.result ≡ 4096 = ap length c.filled-indexes.ensures ∙ length-replicate {A = ℕ} 4096 0 in
+    let row : length c.filled-row.result ≡ 16384 = ap length c.filled-row.ensures ∙ length-replicate {A = ℕ} 16384 0 in
+    λ drawn. record {
+      scratch = record { wide = omega (arith, indexes); long = omega (arith, row) };
+      lists = c.extents_of-extents.ensures;
+      first = λ g e. rw (c.ground_if.ensures.backed g e) c.under_first-under.ensures;
+    }
+
+pub returns-then-not-plan : goal.returns-then-not-plan
+returns-then-not-plan c = rw c.ground_if.ensures.fresh at c.lay_lines.ensures
+
+pub returns : goal.returns
+returns c = rw c.ground_if.ensures.fresh at c.lay_lines-2.ensures

@@ -2,4 +2,4 @@
 use Rattle.paint.proofs.rows.under_first.Goals as goal
 
 pub returns : goal.returns
-returns c = rw c.ground_of-ground.ensures at c.grounded.ensures
+returns c = rw c.ground_of.ensures at c.grounded.ensures

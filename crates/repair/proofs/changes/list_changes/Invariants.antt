@@ -1,13 +1,9 @@
 -- `repair::changes::list_changes` meets its contract: the invariant is that the entries of words below i are
--- listed; the measure is what is left. Assumes nothing.
-use Prim.Native.Nat.{◌≤◌, ◌-◌}
+-- listed. Assumes nothing.
 use mathlib.Core.Path.{◌≡◌}
 use lib.ListN.{length}
 use Rattle.repair.proofs.ListLaws.{Listed}
 use Rattle.repair.proofs.changes.list_changes.Given as goal
 
 abbrev pub invariant-loop-i : goal.invariant-loop-i
-invariant-loop-i l = (l.i ≤ 52) × (length l.initial.list ≡ 156) × Listed l.old l.new l.initial.list l.i l.count l.list
-
-abbrev pub decreases-loop-i : goal.decreases-loop-i
-decreases-loop-i l = 52 - l.i
+invariant-loop-i l = (length l.initial.list ≡ 156) × Listed l.old l.new l.initial.list l.i l.count l.list

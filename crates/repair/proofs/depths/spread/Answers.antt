@@ -1,21 +1,14 @@
--- `repair::depths::spread` meets its contract: the invariant is that the layers below n had their turn, so
--- that a depth is free when one is needed; the measure is what is left. Assumes nothing.
-use native.Mathlib.Omega.{arith}
-use Rattle.lists.proofs.Run.{turns-none, turns_next, turns-all}
-use Rattle.repair.specs.Steps as steps
-use Rattle.repair.proofs.DepthLaws.{turn-room}
+-- `repair::depths::spread` meets its contract: where the layers below n had their turn a depth is free when one is
+-- needed. Assumes nothing.
+use mathlib.Core.Path.{refl}
 use borrow.Author.Rules.{rules}
+use Rattle.repair.specs.Steps as steps
+use Rattle.repair.proofs.StepLaws.{steps-reached}
+use Rattle.repair.proofs.DepthLaws.{turn-room}
 use Rattle.repair.proofs.depths.spread.Goals as goal
-
-pub loop-n-init : goal.loop-n-init
-loop-n-init c = (search rules, turns-none _ _)
-
-pub spread_at-next-requires : goal.spread_at-next-requires
-spread_at-next-requires c = (search rules, turn-room _ _ _ (search rules) c.loop-n.invariant.1 (search rules))
-
-pub loop-n-preserved : goal.loop-n-preserved
-loop-n-preserved c = (search rules, turns_next _ _ _ c.loop-n.invariant.1 c.spread_at-next.ensures)
 
 pub returns : goal.returns
 unfolding steps.spread
-returns c = turns-all _ _ 8 _ (omega arith) (omega arith) c.loop-n.invariant.1
+returns c =
+    steps-reached _ (steps.spread_at c.args.w) _ 8 _ c.each_layer.ensures
+    (λ n r lt p. p.1 (turn-room c.args.w _ n (search rules) refl lt))

@@ -1,17 +1,8 @@
--- `repair::kinds::one_kind` meets its contract: the invariant is that the layers below n had their turn;
--- the measure is what is left. Assumes nothing.
-use native.Mathlib.Omega.{arith}
-use Rattle.lists.proofs.Run.{turns-none, turns_next, turns-all}
-use Rattle.repair.specs.Steps.{one_kind}
-use borrow.Author.Rules.{rules}
+-- `repair::kinds::one_kind` meets its contract: each layer's step is `one_kind_at`. Assumes nothing.
+use Rattle.repair.specs.Steps.{one_kind_at, one_kind}
+use Rattle.repair.proofs.StepLaws.{steps_run}
 use Rattle.repair.proofs.kinds.one_kind.Goals as goal
-
-pub loop-n-init : goal.loop-n-init
-loop-n-init c = (search rules, turns-none _ _)
-
-pub loop-n-preserved : goal.loop-n-preserved
-loop-n-preserved c = (search rules, turns_next _ _ _ c.loop-n.invariant.1 c.one_kind_at-next.ensures)
 
 pub returns : goal.returns
 unfolding one_kind
-returns c = turns-all _ _ 8 _ (omega arith) (omega arith) c.loop-n.invariant.1
+returns c = steps_run _ one_kind_at _ 8 _ c.each_layer.ensures (λ n v r p. p.1)

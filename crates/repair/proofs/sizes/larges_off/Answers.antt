@@ -1,17 +1,8 @@
--- `repair::sizes::larges_off` meets its contract: the invariant is that the layers below n had their turn;
--- the measure is what is left. Assumes nothing.
-use native.Mathlib.Omega.{arith}
-use Rattle.lists.proofs.Run.{turns-none, turns_next, turns-all}
-use Rattle.repair.specs.Steps.{larges_off}
-use borrow.Author.Rules.{rules}
+-- `repair::sizes::larges_off` meets its contract: each layer's step is `large_off`. Assumes nothing.
+use Rattle.repair.specs.Steps.{large_off, larges_off}
+use Rattle.repair.proofs.StepLaws.{steps_run}
 use Rattle.repair.proofs.sizes.larges_off.Goals as goal
-
-pub loop-n-init : goal.loop-n-init
-loop-n-init c = (search rules, turns-none _ _)
-
-pub loop-n-preserved : goal.loop-n-preserved
-loop-n-preserved c = (search rules, turns_next _ _ _ c.loop-n.invariant.1 c.large_off-next.ensures)
 
 pub returns : goal.returns
 unfolding larges_off
-returns c = turns-all _ _ 8 _ (omega arith) (omega arith) c.loop-n.invariant.1
+returns c = steps_run _ large_off _ 8 _ c.each_layer.ensures (λ n v r p. p.1)

@@ -1,48 +1,33 @@
 -- `scanline::ground::lay_first` meets its contract: with the first layer laid, one layer lies over the
 -- ground; else none does. Assumes nothing.
-use mathlib.Core.Path.{◌≡◌, sym, ◌∙◌}
-use mathlib.Core.Bool.{true}
-use Prim.Native.Nat.{◌<◌, ◌/◌}
+use mathlib.Core.Path.{sym, ◌∙◌}
 use native.Mathlib.Omega.{arith}
-use lib.ListN.{length}
 use Rattle.lists.proofs.Tab.{length-each}
-use Rattle.scanline.specs.Engine.Lines.{whole_line}
 use Rattle.scanline.proofs.LineLaws.{line-none, line-next}
-use Rattle.scanline.proofs.GroundLaws.{whole-line, laid-first}
+use Rattle.scanline.proofs.GroundLaws.{under-kept, whole-line}
 use Rattle.scanline.proofs.ground.lay_first.Goals as goal
 
--- ---- the first layer is laid
+pub returns-in_default-clause-laid : goal.returns-in_default-clause-laid
+returns-in_default-clause-laid c =
+    record { over = λ s l same long of. (rw c.in_default.is (under-kept _)) ∙ line-none s _ l _ }
 
 pub lay_layer-requires-clause-on_row : goal.lay_layer-requires-clause-on_row
 lay_layer-requires-clause-on_row c =
-    let laid : (c.args.fresh ≡ true) × (0 < c.args.count) × (whole_line c.args.step (length c.args.line.now / 4) c.args.y ≡ true) =
-    let a = c.args in
-    laid-first a.fresh a.count a.step _ a.y (sym c.is_laid_first.ensures ∙ c.if-is_laid_first.true) in
-    let a = c.requires in
-    let t = laid in
-    let k = whole-line _ _ _ t.2 in
-    (k.1, omega (arith, k.0, a.pixel_len_len.0), a.pixel_len_len.1 t.1)
+    let a = c.requires.pixel_len_len in
+    let whole = whole-line _ _ _ (sym c.is_whole_line.ensures ∙ c.if-is_whole_line.true) in
+    (whole.1, omega (arith, whole.0, a.0), a.1 c.if-count-gt0.true)
 
 pub lay_layer-requires-clause-line_in_bounds : goal.lay_layer-requires-clause-line_in_bounds
 lay_layer-requires-clause-line_in_bounds c =
-    let laid : (c.args.fresh ≡ true) × (0 < c.args.count) × (whole_line c.args.step (length c.args.line.now / 4) c.args.y ≡ true) =
-    let a = c.args in
-    laid-first a.fresh a.count a.step _ a.y (sym c.is_laid_first.ensures ∙ c.if-is_laid_first.true) in
-    let a = c.requires in
-    let t = laid in
-    let k = whole-line _ _ _ t.2 in
-    (a.pixel_len_len.2 t.1, a.first_drawn t.1)
+    let some = c.if-count-gt0.true in
+    (c.requires.pixel_len_len.2 some, λ g. c.requires.first_drawn some g _ c.in-Some.is)
 
-pub returns-then-is_laid_first : goal.returns-then-is_laid_first
-returns-then-is_laid_first c =
-    let laid : (c.args.fresh ≡ true) × (0 < c.args.count) × (whole_line c.args.step (length c.args.line.now / 4) c.args.y ≡ true) =
-    let a = c.args in
-    laid-first a.fresh a.count a.step _ a.y (sym c.is_laid_first.ensures ∙ c.if-is_laid_first.true) in
-    let t = laid in
+pub returns-then-is_whole_line-clause-laid : goal.returns-then-is_whole_line-clause-laid
+returns-then-is_whole_line-clause-laid c =
     record {
       over = λ s l same long of.
-          let first = of t.1 in
-          rw t.0
+          let first = of c.if-count-gt0.true in
+          rw c.in-Some.is
           (line-next s _ l _ _ _ 0 _ first.some first.number (line-none s _ l _)
           (c.lay_layer.ensures.over s same
           (length-each _ _ ∙ sym (length-each _ _) ∙ long) first.layer));
@@ -50,5 +35,5 @@ returns-then-is_laid_first c =
 
 -- ---- the ground alone
 
-pub returns : goal.returns
-returns c = record { over = λ s l same long of. c.lay_ground.ensures ∙ line-none s _ l _ }
+pub returns-clause-laid : goal.returns-clause-laid
+returns-clause-laid c = record { over = λ s l same long of. rw c.in-Some.is c.lay_ground.ensures ∙ line-none s _ l _ }

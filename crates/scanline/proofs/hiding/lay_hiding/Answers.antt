@@ -1,7 +1,5 @@
--- `scanline::hiding::lay_hiding` meets its contract: a layer that is turned away promises nothing, and the row of any
--- other lies among the pictures, as long as the line. Assumes nothing.
-use borrow.Author.Rules.{rules}
-use mathlib.Core.Path.{sym, ◌∙◌}
+-- `scanline::hiding::lay_hiding` meets its contract: the row lies among the pictures, as long as the line. Assumes nothing.
+use mathlib.Core.Path.{◌≡◌, sym, ◌∙◌}
 use Prim.Native.Nat.{◌+◌, ◌*◌, ◌≤◌}
 use native.Mathlib.Omega.{arith}
 use lib.ListN.{length}
@@ -13,58 +11,23 @@ use Rattle.scanline.proofs.LineLaws.{picture-own}
 use Rattle.scanline.proofs.HidingLaws.{step-hiding}
 use Rattle.scanline.proofs.hiding.lay_hiding.Goals as goal
 
-pub returns-then-step : goal.returns-then-step
-returns-then-step c = λ e. absurd (search rules)
-
-pub returns-then-step-2 : goal.returns-then-step-2
-returns-then-step-2 c = λ e. absurd (search rules)
-
-pub returns-then-not-is_on_row : goal.returns-then-not-is_on_row
-returns-then-not-is_on_row c = λ e. absurd (search rules)
-
--- ---- the row lies among the pictures
-
-pub row_start-from-requires : goal.row_start-from-requires
-row_start-from-requires c =
-    let reached : OnRow c.args.step c.args.y =
-    on_row_lem _ _ (sym c.is_on_row.ensures ∙ c.if-not-is_on_row.false) in
-    let room : (let a = c.args in row_start a.step a.y + 4 * a.step.wide ≤ length a.pictures.now) =
-    let p = c.requires in
-    row_fits _ _ _ p.1 reached
-    (p.2 c.if-step.false c.if-step-2.false) in
-    (reached, omega (arith, room))
-
-pub overflow_add-from : goal.overflow_add-from
-overflow_add-from c =
-    let reached : OnRow c.args.step c.args.y =
-    on_row_lem _ _ (sym c.is_on_row.ensures ∙ c.if-not-is_on_row.false) in
-    let room : (let a = c.args in row_start a.step a.y + 4 * a.step.wide ≤ length a.pictures.now) =
-    let p = c.requires in
-    row_fits _ _ _ p.1 reached
-    (p.2 c.if-step.false c.if-step-2.false) in
-    omega (arith, c.row_start-from.ensures, room)
-
 pub slice_bounds-lay_opaque-end : goal.slice_bounds-lay_opaque-end
 slice_bounds-lay_opaque-end c =
-    let reached : OnRow c.args.step c.args.y =
-    on_row_lem _ _ (sym c.is_on_row.ensures ∙ c.if-not-is_on_row.false) in
-    let room : (let a = c.args in row_start a.step a.y + 4 * a.step.wide ≤ length a.pictures.now) =
+    let reached : OnRow c.args.step.now c.args.y = on_row_lem _ _ (sym c.is_on_row.ensures ∙ c.if-not-is_on_row.false) in
     let p = c.requires in
-    row_fits _ _ _ p.1 reached
-    (p.2 c.if-step.false c.if-step-2.false) in
+    let room : (let a = c.args in row_start a.step.now a.y + 4 * a.step.now.wide ≤ length a.pictures.now) =
+    row_fits _ _ _ p.0 reached (p.1 c.if-step.false c.if-step-2.false) in
     omega (arith, c.row_start-from.ensures, room)
 
 pub returns : goal.returns
 returns c =
-    let reached : OnRow c.args.step c.args.y =
-    on_row_lem _ _ (sym c.is_on_row.ensures ∙ c.if-not-is_on_row.false) in
-    let room : (let a = c.args in row_start a.step a.y + 4 * a.step.wide ≤ length a.pictures.now) =
+    let reached : OnRow c.args.step.now c.args.y = on_row_lem _ _ (sym c.is_on_row.ensures ∙ c.if-not-is_on_row.false) in
     let p = c.requires in
-    row_fits _ _ _ p.1 reached
-    (p.2 c.if-step.false c.if-step-2.false) in
-    λ e.
-    let from = c.row_start-from.ensures in let whole = c.requires.0 in
-    record {
+    let room : (let a = c.args in row_start a.step.now a.y + 4 * a.step.now.wide ≤ length a.pictures.now) =
+    row_fits _ _ _ p.0 reached (p.1 c.if-step.false c.if-step-2.false) in
+    let from = c.row_start-from.ensures in
+    let whole : 4 * c.args.step.now.wide ≡ length c.args.line.now = c.if-wide-line.false in
+    λ e. record {
       over = λ s l k same of m lt number.
           step-hiding s _ _ m reached _
           (picture-own s _ _ m _ _ same from c.if-step.false

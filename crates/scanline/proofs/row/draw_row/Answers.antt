@@ -3,13 +3,12 @@
 use Rattle.scanline.proofs.DrawLaws.{banked-tables, banked-count, banked-indexes, extended-spans}
 use Rattle.scanline.proofs.row.draw_row.Goals as goal
 
+pub invariant_of-banks : goal.invariant_of-banks
+invariant_of-banks c = rw (c.font_len.ensures, c.from-bits.ensures) (record { tables = banked-tables _ _ c.requires.0 })
+
 pub draw_line-requires : goal.draw_line-requires
 draw_line-requires c =
-    let a = c.requires in
-    record {
-      tables = rw c.font_len.ensures (banked-tables _ _ a.0, banked-count _ _ a.0);
-      spanned = extended-spans _ _ _ _ a.1;
-    }
+    let a = c.requires in record { counted = banked-count _ _ a.0; spanned = extended-spans _ _ _ _ a.1 }
 
 pub returns : goal.returns
-returns c = banked-indexes _ _ _ _ _ (rw c.font_len.ensures at c.draw_line.ensures)
+returns c = banked-indexes _ _ _ _ _ (rw (c.font_len.ensures, c.from-bits.ensures) at c.draw_line.ensures)

@@ -1,12 +1,9 @@
--- `sixteen::lanes::own_alphas` meets its contract: the loop has filled both words of the first k
--- pixels; the measure is what is left. Assumes nothing.
-use Prim.Native.Nat.{◌-◌, ◌*◌}
+-- `sixteen::lanes::own_alphas` meets its contract: the loop has filled both words of the first k pixels. Assumes
+-- nothing.
+use Prim.Native.Nat.{◌*◌}
 use Rattle.sixteen.specs.Engine.Lanes.{HighIs}
 use Rattle.sixteen.proofs.LaneLaws.{Filled}
 use Rattle.sixteen.proofs.lanes.own_alphas.Given as goal
 
 abbrev pub invariant-loop-k : goal.invariant-loop-k
 invariant-loop-k l = Filled l.w 32 (2 * l.k) (HighIs l.over)
-
-abbrev pub decreases-loop-k : goal.decreases-loop-k
-decreases-loop-k l = 16 - l.k

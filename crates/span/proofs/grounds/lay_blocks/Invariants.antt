@@ -9,7 +9,7 @@ use Rattle.span.specs.Engine.Laid.{lay_byte}
 use Rattle.span.proofs.grounds.lay_blocks.Given as goal
 
 abbrev pub invariant-loop-i : goal.invariant-loop-i
-invariant-loop-i l = Front l.out l.initial.out (anew (lay_byte l.over false 0 (solid_byte l.c0 l.c1 l.c2))) l.i
+invariant-loop-i l = Front l.out l.initial.out (anew (lay_byte l.over false 0 (solid_byte l.fn.ground.c0 l.fn.ground.c1 l.fn.ground.c2))) l.i
 
 abbrev pub decreases-loop-i : goal.decreases-loop-i
 decreases-loop-i l = length l.initial.out - l.i

@@ -1,15 +1,11 @@
--- `span::grounds::lay_flat_blocks` meets its contract: the loop has laid a part of the run, from its front up
--- to i; the measure is what is left. Assumes nothing.
+-- `span::grounds::lay_flat_blocks` meets its contract: the loop has laid a part of the run, from its front up to i.
+-- Assumes nothing.
 use mathlib.Core.Bool.{true}
-use Prim.Native.Nat.{◌-◌}
-use lib.ListN.{length}
+use Prim.Native.Nat.{◌*◌}
 use Rattle.sixteen.specs.Engine.Lanes.{Front, anew}
 use Rattle.colours.specs.Rows.{solid_byte}
 use Rattle.span.specs.Engine.Laid.{lay_byte}
 use Rattle.span.proofs.grounds.lay_flat_blocks.Given as goal
 
-abbrev pub invariant-loop-i : goal.invariant-loop-i
-invariant-loop-i l = Front l.out l.initial.out (anew (lay_byte l.over true l.alpha (solid_byte l.c0 l.c1 l.c2))) l.i
-
-abbrev pub decreases-loop-i : goal.decreases-loop-i
-decreases-loop-i l = length l.initial.out - l.i
+abbrev pub invariant-loop-k : goal.invariant-loop-k
+invariant-loop-k l = Front l.out l.initial.out (anew (lay_byte l.over true l.alpha (solid_byte l.fn.ground.c0 l.fn.ground.c1 l.fn.ground.c2))) (64 * l.k)

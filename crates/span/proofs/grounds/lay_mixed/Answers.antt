@@ -2,16 +2,8 @@
 -- block begins; the measure is what is left. Assumes nothing.
 use borrow.Author.Rules.{rules}
 use native.Mathlib.Omega.{arith}
-use Rattle.sixteen.proofs.LaneLaws.{high_small}
-use Rattle.sixteen.proofs.PartLaws.{reach-none}
 use Rattle.span.proofs.GroundLaws.{mixed-more}
 use Rattle.span.proofs.grounds.lay_mixed.Goals as goal
-
-pub loop-u-init : goal.loop-u-init
-loop-u-init c = search (reach-none, rules)
-
-pub mixed-w-requires : goal.mixed-w-requires
-mixed-w-requires c = search (high_small, rules)
 
 pub loop-u-preserved : goal.loop-u-preserved
 loop-u-preserved c = (search (mixed-more, rules), omega (arith, c.is_mixed_at.ensures c.if-not-is_mixed_at.false, c.requires.0))

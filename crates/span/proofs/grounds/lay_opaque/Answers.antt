@@ -2,12 +2,8 @@
 -- opaque block begins; the measure is what is left. Assumes nothing.
 use borrow.Author.Rules.{rules}
 use native.Mathlib.Omega.{arith}
-use Rattle.sixteen.proofs.PartLaws.{reach-none}
 use Rattle.span.proofs.GroundLaws.{opaque-more}
 use Rattle.span.proofs.grounds.lay_opaque.Goals as goal
-
-pub loop-q-init : goal.loop-q-init
-loop-q-init c = search (reach-none, rules)
 
 pub loop-q-preserved : goal.loop-q-preserved
 loop-q-preserved c = let turn = c.loop-q in let i = turn.invariant in

@@ -9,7 +9,7 @@ use Rattle.span.specs.Engine.Laid.{lay_byte}
 use Rattle.span.proofs.hides.lay_front.Given as goal
 
 abbrev pub invariant-loop-q : goal.invariant-loop-q
-invariant-loop-q l = Front l.out l.initial.out (anew (lay_byte l.over false 0 (solid_byte l.c0 l.c1 l.c2))) l.i × AllAlpha l.over 0 (l.i / 4) 255
+invariant-loop-q l = Front l.out l.initial.out (anew (lay_byte l.over false 0 (solid_byte l.fn.ground.c0 l.fn.ground.c1 l.fn.ground.c2))) l.i × AllAlpha l.over 0 (l.i / 4) 255
 
 abbrev pub decreases-loop-q : goal.decreases-loop-q
 decreases-loop-q l = length l.initial.out - l.i

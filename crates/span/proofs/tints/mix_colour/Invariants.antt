@@ -1,14 +1,9 @@
--- `span::tints::mix_colour` meets its contract: the loop has done the blocks from `from` up to i; the measure is what is
--- left. Assumes nothing.
+-- `span::tints::mix_colour` meets its contract: the loop has done the blocks from `from` up to i. Assumes nothing.
 use mathlib.Core.Bool.{false}
-use Prim.Native.Nat.{◌-◌, ◌%◌, ◌≤◌}
-use mathlib.Core.Path.{◌≡◌}
+use Prim.Native.Nat.{◌+◌, ◌*◌}
 use Rattle.sixteen.specs.Engine.Lanes.{Reach}
 use Rattle.span.specs.Engine.Tints.{tint_byte}
 use Rattle.span.proofs.tints.mix_colour.Given as goal
 
-abbrev pub invariant-loop-i : goal.invariant-loop-i
-invariant-loop-i l = Reach l.out l.initial.out (tint_byte l.c false 0) l.from l.i × ((l.i - l.from) % 64 ≡ 0) × (l.i ≤ l.to)
-
-abbrev pub decreases-loop-i : goal.decreases-loop-i
-decreases-loop-i l = l.to - l.i
+abbrev pub invariant-loop-k : goal.invariant-loop-k
+invariant-loop-k l = Reach l.out l.initial.out (tint_byte l.c false 0) l.from (l.from + 64 * l.k)

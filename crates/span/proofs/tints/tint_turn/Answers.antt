@@ -3,9 +3,6 @@ use native.Mathlib.Omega.{arith}
 use Rattle.span.proofs.TintLaws.{indexes-on, same-tint}
 use Rattle.span.proofs.tints.tint_turn.Goals as goal
 
-pub returns-then-end-j : goal.returns-then-end-j
-returns-then-end-j c = indexes-on c.requires.0 (omega arith) c.requires.1 c.tint16.ensures
-
 pub returns : goal.returns
 returns c = let same = c.past_same-end.ensures in let x = c.index_of.ensures.0 in indexes-on c.requires.0 (omega (arith, same.least, c.if-end-j.false)) same.most
     (same-tint _ _ _ _ _ same (rw x at c.tint_blocks.ensures))

@@ -1,8 +1,7 @@
--- `steps::form::parts_of` meets its contract: every place is small, so no sum wraps. Assumes
--- nothing.
+-- `steps::form::parts_of` meets its contract: a line is good where its parts end at its end. Assumes nothing.
 use borrow.Author.Rules.{rules}
 use Rattle.steps.proofs.FormLaws.{parts_is}
 use Rattle.steps.proofs.form.parts_of.Goals as goal
 
-pub returns : goal.returns
-returns c = (search (parts_is, rules), search rules, search rules)
+pub returns-clause-value : goal.returns-clause-value
+returns-clause-value c = search (parts_is, rules)
