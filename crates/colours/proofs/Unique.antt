@@ -16,6 +16,7 @@ use Rattle.colours.proofs.expand.Reads as expand
 use Rattle.colours.proofs.fill.Reads as fill
 use Rattle.colours.proofs.rows.repeat16.Reads as repeat16
 use Rattle.colours.proofs.rows.fill_rest.Reads as FillRest
+use Rattle.colours.proofs.rows.solid_pixel.Reads as SolidPixel
 
 -- ---- the row that is written
 
@@ -32,6 +33,11 @@ repeat16-unique κs i a b e f p q = part-unique p q
 
 pub fill-rest-unique : (κs i a b e f : _) → FillRest.Post κs i a e → FillRest.Post κs i b f → e.0.now ≡ f.0.now
 fill-rest-unique κs i a b e f p q = part-unique p q
+
+-- ---- the background's pixel, of which each byte is promised and no sum
+
+pub solid-pixel-unique : (κs i a b e f : _) → SolidPixel.Post κs i a e → SolidPixel.Post κs i b f → a ≡ b
+solid-pixel-unique κs i a b e f p q = omega (arith, p.p0, q.p0, p.p1, q.p1, p.p2, q.p2, p.p3, q.p3)
 
 -- ---- a palette, of which each byte is promised and no sum
 

@@ -251,7 +251,8 @@ impl Display {
     // Stores a byte in the selected table and goes on to the next place. Refused, in this order, with 6
     // where `tables` is not as long as the display's bits a glyph pixel ask, 3 where nothing is selected,
     // 4 where the active words name the bank, and 5 at the table's end, which sets an error bit; else a
-    // refusal changes nothing.
+    // refusal changes nothing. It is a part of its caller, so that puts one after the other copy no display.
+    #[inline(always)]
     pub fn put(self, tables: &mut [u8], byte: u8) -> Told
         ensures state { result ≡ put_of self tables.old }
         ensures tables { tables.new ≡ put_tables self tables.old byte }

@@ -8,8 +8,9 @@ ghost use Rattle.display.specs.Runs.{put_run_of, put_run_tables, write_run_of};
 ghost use Rattle.display.specs.Paint.{fill_told, fill_bytes, paint_told, paint_bytes, frame_told, frame_bytes};
 ghost use Rattle.display.specs.Paint.{line_told, line_bytes};
 ghost use Rattle.display.specs.Reached.{Arranged};
+ghost use Rattle.figures.specs.Often.{often};
 
-use display::{Display, Ran, Told};
+use display::Display;
 
 // Display on, update enable.
 const ON: u32 = 5;
@@ -66,30 +67,13 @@ impl Screen {
         self.display
     }
 
-    fn took(&mut self, told: Told) -> u8
-        requires { Arranged told.state }
-        ensures state { self.new.display ≡ told.state }
-        ensures answer { result ≡ told.answer }
-    {
-        self.display = told.state;
-        told.answer
-    }
-
-    fn took_run(&mut self, ran: Ran) -> (u8, usize)
-        requires { Arranged ran.state }
-        ensures state { self.new.display ≡ ran.state }
-        ensures answer { result ≡ (ran.answer, ran.done) }
-    {
-        self.display = ran.state;
-        (ran.answer, ran.done)
-    }
-
     pub fn write(&mut self, register: u32, value: u32) -> u8
         ensures state { self.new.display ≡ (write_of self.old.display register value).state }
         ensures answer { result ≡ (write_of self.old.display register value).answer }
     {
         let told = self.display.write(register, value);
-        self.took(told)
+        self.display = told.state;
+        told.answer
     }
 
     pub fn select(&mut self, selection: u32) -> u8
@@ -97,7 +81,8 @@ impl Screen {
         ensures answer { result ≡ (select_of self.old.display selection).answer }
     {
         let told = self.display.select(selection);
-        self.took(told)
+        self.display = told.state;
+        told.answer
     }
 
     pub fn toggle(&mut self, bits: u32) -> u8
@@ -105,7 +90,8 @@ impl Screen {
         ensures answer { result ≡ (toggle_of self.old.display bits).answer }
     {
         let told = self.display.toggle(bits);
-        self.took(told)
+        self.display = told.state;
+        told.answer
     }
 
     pub fn start(&mut self) -> u8
@@ -113,7 +99,8 @@ impl Screen {
         ensures answer { result ≡ (start_of self.old.display).answer }
     {
         let told = self.display.start();
-        self.took(told)
+        self.display = told.state;
+        told.answer
     }
 
     pub fn put(&mut self, tables: &mut [u8], byte: u8) -> u8
@@ -122,7 +109,23 @@ impl Screen {
         ensures tables { tables.new ≡ put_tables self.old.display tables.old byte }
     {
         let told = self.display.put(tables, byte);
-        self.took(told)
+        self.display = told.state;
+        told.answer
+    }
+
+    // A byte put once and then so many times more; the last answer. The display is kept apart until then: each time that
+    // the screen took it back it was copied.
+    pub fn put_often(&mut self, tables: &mut [u8], byte: u8, more: u32) -> u8
+        ensures state { self.new.display ≡ (often more self.old.display tables.old byte).0.state }
+        ensures answer { result ≡ (often more self.old.display tables.old byte).0.answer }
+        ensures tables { tables.new ≡ (often more self.old.display tables.old byte).1 }
+    {
+        let mut told = self.display.put(tables, byte);
+        for _ in 0..more {
+            told = told.state.put(tables, byte);
+        }
+        self.display = told.state;
+        told.answer
     }
 
     pub fn put_run(&mut self, tables: &mut [u8], run: &[u8]) -> (u8, usize)
@@ -131,7 +134,8 @@ impl Screen {
         ensures tables { tables.new ≡ put_run_tables self.old.display tables.old run.now }
     {
         let ran = self.display.put_run(tables, run);
-        self.took_run(ran)
+        self.display = ran.state;
+        (ran.answer, ran.done)
     }
 
     pub fn write_run(&mut self, run: &[u8]) -> (u8, usize)
@@ -139,7 +143,8 @@ impl Screen {
         ensures answer { result ≡ ((write_run_of self.old.display run.now).answer, (write_run_of self.old.display run.now).done) }
     {
         let ran = self.display.write_run(run);
-        self.took_run(ran)
+        self.display = ran.state;
+        (ran.answer, ran.done)
     }
 
     pub fn fill(&mut self, out: &mut [u8]) -> u8
@@ -148,7 +153,8 @@ impl Screen {
         ensures output { out.new ≡ fill_bytes self.old.display out.old }
     {
         let told = self.display.fill(out);
-        self.took(told)
+        self.display = told.state;
+        told.answer
     }
 
     pub fn paint(&mut self, low: u32, high: u32, lent: Lent, out: &mut [u8]) -> u8
@@ -159,7 +165,8 @@ impl Screen {
         let told = self
             .display
             .paint(low, high, lent.tables, lent.pictures, lent.floats, out);
-        self.took(told)
+        self.display = told.state;
+        told.answer
     }
 
     pub fn frame(&mut self, lent: Lent, out: &mut [u8]) -> u8
@@ -170,7 +177,8 @@ impl Screen {
         let told = self
             .display
             .frame(lent.tables, lent.pictures, lent.floats, out);
-        self.took(told)
+        self.display = told.state;
+        told.answer
     }
 
     pub fn line(&mut self, y: u32, lent: Lent, out: &mut [u8]) -> u8
@@ -181,6 +189,7 @@ impl Screen {
         let told = self
             .display
             .line(y, lent.tables, lent.pictures, lent.floats, out);
-        self.took(told)
+        self.display = told.state;
+        told.answer
     }
 }

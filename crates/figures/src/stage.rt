@@ -92,11 +92,7 @@ impl Stage {
     fn put(&mut self, r: Record, tables: &mut [u8]) -> u8 {
         let n = count(self.lengths.tables, tables);
         let byte = (r.a % 256) as u8;
-        let mut answer = 0;
-        for _ in 0..=r.b % 1024 {
-            answer = self.screen.put(&mut tables[..n], byte);
-        }
-        answer
+        self.screen.put_often(&mut tables[..n], byte, r.b % 1024)
     }
 
     // The painting that a record asks for.

@@ -8,7 +8,7 @@ use native.Mathlib.Nat.{le_of_suc-le-suc, not-suc-le-zero}
 use lib.ListN.{length, get_or, take, drop, length-drop, length-append, length-take, length-replicate}
 use lib.Seq.{length-take-le, take_all, take_at, drop_at, take-append-add}
 use borrow.Author.Tests.{eq-eqb, ne_eqb, le-leb, lt-leb}
-use Rattle.std.specs.Prelude.{Some, None}
+use Rattle.std.specs.Prelude.{Ok, Err}
 use Rattle.std.specs.Int.{to_be_bytes}
 use Rattle.std.proofs.Common.{w16, w32}
 use Rattle.lists.specs.Over.{over}
@@ -189,11 +189,12 @@ bad-is d t u r q =
     record { state = q.0; tables = refl; reply = ap (λ (n : ℕ). take n u) q.1 ∙ q.2; fits = omega (arith, q.1) }
 
 module _ (d : Display) (t b : List ℕ) where
-  pub work-bad : (r : Replied) (u : List ℕ) → None ≡ parts_of b → Refused d bad_form r u → Leaves (done_of d t b) r t u
+  pub work-bad : (p : Parts) (r : Replied) (u : List ℕ) → Err p ≡ parts_of b → Refused d bad_form r u
+      → Leaves (done_of d t b) r t u
   unfolding done_of
-  work-bad r u e q = let g = no-parts b e in rw g (bad-is d t u r q)
+  work-bad p r u e q = let g = no-parts b p e in rw g (bad-is d t u r q)
 
-  pub work-is : (p : Parts) (v pi u : List ℕ) (w s : Told) (r : Replied) → Some p ≡ parts_of b
+  pub work-is : (p : Parts) (v pi u : List ℕ) (w s : Told) (r : Replied) → Ok p ≡ parts_of b
       → midway w v ≡ run_of (midway (told d done) t) (steps_of b) → s ≡ started_of w
       → pi ≡ take (length b - (p.picture + 2)) (drop (p.picture + 2) b) → Framed s v pi r u
       → Leaves (done_of d t b) r v u

@@ -112,7 +112,7 @@ fn work(state: Display, tables: &mut [u8], b: &[u8], reply: &mut [u8]) -> Replie
     ensures { Leaves (done_of state tables.old b.now) result tables.new
         reply.new }
 {
-    let Some(parts) = form::parts_of(b) else {
+    let Ok(parts) = form::parts_of(b) else {
         return refuse(state, BAD_FORM, reply);
     };
     let t = steps::run(state, tables, b, parts.writes);

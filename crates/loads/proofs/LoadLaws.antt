@@ -2,7 +2,7 @@
 use mathlib.Core.Path.{◌≡◌, refl, sym, ap, ap₂, ◌∙◌}
 use mathlib.Core.Bool.{Bool}
 use mathlib.Core.Logic.{⊎_elim}
-use mathlib.Core.List.{List, [], ◌∷◌, ◌++◌}
+use mathlib.Core.List.{List, [], ◌∷◌, ◌++◌, append-nil}
 use Prim.Native.Nat.{ℕ, zero, suc, ◌+◌, ◌-◌, ◌*◌, ◌^◌, ◌≤◌, ◌<◌}
 use native.Mathlib.Omega.{arith}
 use borrow.Author.Tests.{eq-eqb, ne_eqb}
@@ -56,10 +56,19 @@ pub stored-empty : (l : List ℕ) (o : ℕ) (part : List ℕ) → length part �
 stored-empty l o [] h = sym (stored-none l o)
 stored-empty l o (x ∷ part) h = absurd (omega arith)
 
-pub stored-lent : (l part : List ℕ) (o : ℕ) (out : List ℕ) → out ≡ part
+drop-take : (k : ℕ) (m : List ℕ) → drop k (take k m) ≡ []
+drop-take zero m = refl
+drop-take (suc k) [] = refl
+drop-take (suc k) (x ∷ m) = drop-take k m
+
+pub stored-lent : (l part : List ℕ) (o : ℕ) (out : List ℕ)
+    → out ≡ over part (take (o + length part - o) (drop o l))
     → take o l ++ (out ++ drop (o + length part - o) (drop o l)) ≡ stored l o part
 unfolding stored over
-stored-lent l part o out g = let e : o + length part - o ≡ length part = omega arith in rw (e, g)
+stored-lent l part o out g =
+    let e : o + length part - o ≡ length part = omega arith in
+    let h = rw e at g in
+    rw (e, h, drop-take (length part) (drop o l), append-nil part)
 
 -- ---- a run of puts
 

@@ -88,7 +88,7 @@ fn store(bits: usize, tables: &mut [u8], selection: Selection, part: &[u8])
     }
     let at = first_byte_of(bits, selection.number) + (selection.place as usize);
     let end = at + part.len();
-    tables[at..end].copy_from_slice(part);
+    octets::copy(part, &mut tables[at..end]);
 }
 
 // A run of which nothing was done.

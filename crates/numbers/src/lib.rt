@@ -22,11 +22,16 @@ pub fn word(s: &[u8], at: usize) -> usize
     u32::from_le_bytes([s[at], s[at + 1], s[at + 2], s[at + 3]]) as usize
 }
 
+// Byte by byte, as `octets::copy` does and for its reason.
 fn put_word(part: &mut [u8], value: u32)
     requires { length part.old ≡ 4 }
     ensures { part.new ≡ tab 4 (little_byte value) }
 {
-    part.copy_from_slice(&value.to_le_bytes());
+    let [b0, b1, b2, b3] = value.to_le_bytes();
+    part[0] = b0;
+    part[1] = b1;
+    part[2] = b2;
+    part[3] = b3;
 }
 
 // A row of words as bytes, the lowest of each first.

@@ -14,10 +14,13 @@ pub fn find(row: &[u8], byte: u8) -> usize
     row.iter().position(|x| *x == byte).unwrap_or(row.len())
 }
 
-// The part, to the front of the row.
+// The part, to the front of the row: byte by byte, since the library's copy would have the archive ask C for memmove,
+// and compare two addresses, which a module for WebAssembly may not.
 pub fn copy(part: &[u8], row: &mut [u8])
     requires { length part.now ≤ length row.old }
     ensures { row.new ≡ over part.now row.old }
 {
-    row[..part.len()].copy_from_slice(part);
+    for (i, byte) in part.iter().enumerate() {
+        row[i] = *byte;
+    }
 }

@@ -13,6 +13,7 @@ use Rattle.paint.proofs.fill.Reads as fill
 use Rattle.paint.proofs.band.Reads as band
 use Rattle.paint.proofs.frame.Reads as frame
 use Rattle.paint.proofs.line.Reads as line
+use Rattle.paint.proofs.scene.Scene.lengths.Reads as lengths
 
 -- two outcomes that come to one answer and one error word
 painted-meet : (o p : Result ℕ Refusal) (errors : ℕ) {t : Painted} → painted_by o errors ≡ t → painted_by p errors ≡ t → o ≡ p
@@ -37,3 +38,8 @@ frame-unique κs i a b e f p q = (painted-meet _ _ _ p.0 q.0, meet p.1 q.1)
 pub line-unique : (κs i a b e f : _) → line.Post κs i a e → line.Post κs i b f
     → (a ≡ b) × (e.1.1.1.0.now ≡ f.1.1.1.0.now)
 line-unique κs i a b e f p q = (painted-meet _ _ _ p.0 q.0, meet p.1 q.1)
+
+-- how long the lent buffers are, each by itself
+pub lengths-unique : (κs i a b e f : _) → lengths.Post κs i a e → lengths.Post κs i b f
+    → (a.tables ≡ b.tables) × (a.pictures ≡ b.pictures) × (a.floats ≡ b.floats)
+lengths-unique κs i a b e f p q = (meet p.0 q.0, meet p.1.0 q.1.0, meet p.1.1 q.1.1)

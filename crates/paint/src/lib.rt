@@ -57,7 +57,16 @@ fn paint_part(scene: &Scene, errors: u32, part: Part, fresh: bool, out: &mut [u8
         scene.tables,
         part,
     );
-    paint_rows(out, scene, fresh, &plan, part);
+    paint_rows(
+        out,
+        w,
+        scene.tables,
+        scene.pictures,
+        scene.floats,
+        fresh,
+        &plan,
+        part,
+    );
     plan.errors
 }
 

@@ -9,7 +9,6 @@ ghost use Rattle.scanline.specs.Engine.Lines.{Banked, AllFit, LentBy, under_byte
 ghost use Rattle.paint.specs.Engine.Rows.{Holds, RowsLaid, LaidTo, Prepared, Under, Backed};
 ghost use Rattle.paint.specs.Engine.Rows.{AllBanked, Extends, AllExtended};
 
-use crate::scene::Scene;
 use mix::{Ground, PIXEL_LEN};
 use numbers::filled;
 use pen::spans::list_spans;
@@ -175,38 +174,55 @@ fn extents_of(tables: &[u8], plan: &Plan) -> [u32; MOST_EXTENTS]
     extents
 }
 
-// The lines of a part, with what their rows need where they are made: room, which to clear costs more than many a line that
-// has no such layer, and what is worked out once for all lines.
-pub fn paint_rows(out: &mut [u8], scene: &Scene, fresh: bool, plan: &Plan, part: Part)
-    requires out_len { (length out.old ≡ part.count * line_len scene.now.words.now)
-        × (0 < width_of scene.now.words.now) }
-    requires all_fit { AllFit scene.now.tables.now scene.now.pictures.now scene.now.floats.now
-        (line_len scene.now.words.now) plan.now }
-    ensures { RowsLaid (Holds scene.now.words.now scene.now.tables.now scene.now.pictures.now scene.now.floats.now)
-        plan.now part fresh out.old out.new }
+// The lines of a part whose rows have to be made, with room for that and what is worked out once for all lines. To clear
+// the room costs more than many a line: made in `paint_rows` itself, it was cleared for each part.
+fn draw_rows(out: &mut [u8], w: &[u32; 52], painting: &Painting, plan: &Plan, part: Part)
+    requires out_len { (length out.old ≡ part.count * line_len w.now) × (0 < width_of w.now) }
+    requires all_fit { AllFit painting.now.tables.now painting.now.pictures.now painting.now.floats.now
+        (line_len w.now) plan.now }
+    requires backed { Backed painting.now.ground w.now }
+    ensures { RowsLaid (Holds w.now painting.now.tables.now painting.now.pictures.now painting.now.floats.now)
+        plan.now part (is_some painting.now.ground) out.old out.new }
 {
-    let w = scene.words;
-    let tables = scene.tables;
-    let painting = Painting {
-        tables,
-        pictures: scene.pictures,
-        floats: scene.floats,
-        extents: &[],
-        under: &[0; 16],
-        ground: ground_if(fresh, w),
-    };
-    if !plan.drawn {
-        lay_lines(out, &mut [], &mut [], w, &painting, plan, part);
-        return;
-    }
-    let extents = extents_of(tables, plan);
+    let extents = extents_of(painting.tables, plan);
     let under = under_first(w, &plan.steps[0]);
     let drawn = Painting {
         extents: &extents,
         under: &under,
-        ..painting
+        ..*painting
     };
     let mut indexes = filled::<u8, MOST_PIXELS>(0);
     let mut row = filled::<u8, MOST_BYTES>(0);
     lay_lines(out, &mut indexes, &mut row, w, &drawn, plan, part);
+}
+
+// The lines of a part, over the background where the frame is a fresh one. It is told what is lent, and of no scene.
+pub fn paint_rows(
+    out: &mut [u8],
+    w: &[u32; 52],
+    tables: &[u8],
+    pictures: &[u8],
+    floats: &[f32],
+    fresh: bool,
+    plan: &Plan,
+    part: Part,
+)
+    requires out_len { (length out.old ≡ part.count * line_len w.now) × (0 < width_of w.now) }
+    requires all_fit { AllFit tables.now pictures.now floats.now (line_len w.now) plan.now }
+    ensures { RowsLaid (Holds w.now tables.now pictures.now floats.now)
+        plan.now part fresh out.old out.new }
+{
+    let painting = Painting {
+        tables,
+        pictures,
+        floats,
+        extents: &[],
+        under: &[0; 16],
+        ground: ground_if(fresh, w),
+    };
+    if plan.drawn {
+        draw_rows(out, w, &painting, plan, part);
+        return;
+    }
+    lay_lines(out, &mut [], &mut [], w, &painting, plan, part);
 }

@@ -31,7 +31,7 @@ use Rattle.frames.specs.Band.{band_by}
 use Rattle.plan.specs.declared.Part.{Part}
 use Rattle.plan.specs.Engine.Plan.{left_end, wide_of, reaches, taken, part_layers, OfLayer}
 use Rattle.scanline.specs.Engine.Lines.{OnRow, row_start, drawn_indexes, line_byte, line_to, line_from, band_line, Shows}
-use Rattle.scanline.specs.Engine.Lines.{Draws, Flows, OfLine}
+use Rattle.scanline.specs.Engine.Lines.{Draws, Flows, OfLine, LaidOver, Over}
 use Rattle.plan.proofs.PartLaws.{part-is}
 use Rattle.scanline.proofs.DrawLaws.{row-drawn}
 use Rattle.frames.proofs.BandLaws.{band-through}
@@ -283,3 +283,12 @@ module _ (s : Scene) (y : ℕ) where
   pub line-rest : (l line : List ℕ) (k : ℕ) → length l ≤ k → line ≡ each (line_from s y l k) line
   unfolding line_from
   line-rest l line k h = each-id _ line (λ i p. rw (drop_of_length-le l {i = k} h) (through-none _ p))
+
+-- ---- a row that lies over its part of a line, of whatever scenes it is: the layer lies over the line
+
+pub laid-line : (Of : Scene → Type 0) (t : Step) (y : ℕ) (line part : List ℕ) → OnRow t y
+    → LaidOver Of t y (take (4 * t.left + 4 * t.wide - 4 * t.left) (drop (4 * t.left) line)) part
+    → Over Of t y line
+    (take (4 * t.left) line ++ (part ++ drop (4 * t.left + 4 * t.wide - 4 * t.left) (drop (4 * t.left) line)))
+laid-line Of t y line part r laid =
+    record { over = λ s same long m. step-over s y t m r laid.row (laid.made.own s same m) line part long laid.over }

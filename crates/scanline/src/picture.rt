@@ -12,7 +12,21 @@ use crate::row::{float_row, row_start};
 use mix::{Ground, PIXEL_LEN};
 use plan::Step;
 
-// One run over another, or over the background in its place: at the layer's alpha, or each pixel at its own.
+// One run over another: at the layer's alpha, or each pixel at its own.
+fn over(out: &mut [u8], run: &[u8], global: bool, alpha: u8)
+    requires { (length out.old ≡ length run.now) × (length out.old % pixel_len ≡ 0) }
+    ensures { out.new ≡ each (over_byte run.now global alpha) out.old }
+{
+    if global {
+        span::blend_flat(out, run, alpha);
+        return;
+    }
+    span::blend(out, run);
+}
+
+// The same, or over the background in place of what is there. What blends is behind a call of its own in either case, so
+// that this and what calls it become a part of the loop over the lines.
+#[inline(always)]
 fn lay_run(part: &mut [u8], run: &[u8], ground: Option<Ground>, step: &Step)
     requires { (length part.old ≡ length run.now) × (length part.old % pixel_len ≡ 0) }
     ensures { part.new ≡ each (over_byte run.now step.now.layer.global step.now.alpha)
@@ -23,14 +37,11 @@ fn lay_run(part: &mut [u8], run: &[u8], ground: Option<Ground>, step: &Step)
         span::lay_either(part, run, global, step.alpha, ground);
         return;
     }
-    if global {
-        span::blend_flat(part, run, step.alpha);
-        return;
-    }
-    span::blend(part, run);
+    over(part, run, global, step.alpha);
 }
 
 // Line y of a picture of bytes.
+#[inline(always)]
 fn lay_bytes(part: &mut [u8], pictures: &[u8], ground: Option<Ground>, step: &Step, y: usize)
     requires on_row { OnRow step.now y × OnPart step.now (length part.old)
         × (step.now.layer.graphics ≡ false) × (step.now.layer.floats ≡ false) }
@@ -62,6 +73,7 @@ fn lay_floats(
 }
 
 // Either of them.
+#[inline(always)]
 pub fn lay_picture(
     part: &mut [u8],
     row: &mut [u8],

@@ -103,6 +103,18 @@ pub fn lay_either(out: &mut [u8], over: &[u8], global: bool, alpha: u8, ground: 
     ensures { out.new ≡ each (over_byte over.now global alpha)
         (tab (length out.old) (solid_byte ground.c0 ground.c1 ground.c2)) }
 {
+    lay_channels(out, over, global, alpha, ground.c0, ground.c1, ground.c2);
+}
+
+// The same over a colour by its channels, and never a part of its caller: a `Ground` goes by its address, and of bytes that
+// are read there LLVM makes no vector, so that a block of one colour took sixteen stores in place of four.
+#[inline(never)]
+fn lay_channels(out: &mut [u8], over: &[u8], global: bool, alpha: u8, c0: u8, c1: u8, c2: u8)
+    requires { (length out.old ≡ length over.now) × (length out.old % pixel_len ≡ 0) }
+    ensures { out.new ≡ each (over_byte over.now global alpha)
+        (tab (length out.old) (solid_byte c0 c1 c2)) }
+{
+    let ground = Ground { c0, c1, c2 };
     if global {
         lay_flat(out, over, alpha, ground);
         return;

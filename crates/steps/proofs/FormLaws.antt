@@ -7,9 +7,8 @@ use mathlib.Core.List.{List}
 use native.Mathlib.Omega.{arith}
 use lib.ListN.{length}
 use lib.Dec.{eqb}
-use borrow.Author.Tests.{eqb-true}
-use Rattle.std.specs.Prelude.{Some, None}
-use Rattle.std.specs.Bool.{then_some}
+use borrow.Author.Tests.{eqb-true, eq-eqb, ne_eqb}
+use Rattle.std.specs.Prelude.{Ok, Err}
 use Rattle.lists.specs.Choice.{choose}
 use Rattle.steps.specs.declared.form.Parts.{Parts}
 use Rattle.steps.specs.Form.{byte_at, count_at, past_loads, writes_place, picture_place, end_place, is_formed}
@@ -61,32 +60,39 @@ module _ (b : List ℕ) (w x : ℕ) (ew : w ≡ writes_place b) (ex : x ≡ byte
   unfolding end_place
   end_is k ek = rw (ek, picture-is) refl
 
-pub parts_is : (b : List ℕ) (p : Parts) (k : ℕ) → p ≡ places_of b → k ≡ count_at b p.picture
-    → then_some (eqb (p.picture + 2 + k) (length b)) p ≡ parts_of b
+-- a line is good where its parts end at its end, and only there
+pub good_is : (b : List ℕ) (p : Parts) (k : ℕ) → p ≡ places_of b → k ≡ count_at b p.picture
+    → p.picture + 2 + k ≡ length b → Ok p ≡ parts_of b
 unfolding is_formed end_place
-parts_is b p k ep ek = rw (ek, ep) (go (eqb (end_place b) (length b)))
-  where
-    go : (z : Bool) → then_some z (places_of b) ≡ choose z (Some (places_of b)) None
-    go true = refl
-    go false = refl
+good_is b p k ep ek e =
+    let g : eqb (end_place b) (length b) ≡ true = eq-eqb (end_place b) (length b) (rw (ek, ep) at e) in
+    rw (ep, g) refl
 
--- a line with parts is well formed, one without is not
-pub some-parts : (b : List ℕ) (p : Parts) → Some p ≡ parts_of b → (is_formed b ≡ true) × (p ≡ places_of b)
+pub bad_is : (b : List ℕ) (p : Parts) (k : ℕ) → p ≡ places_of b → k ≡ count_at b p.picture
+    → (p.picture + 2 + k ≡ length b → ⊥) → Err p ≡ parts_of b
+unfolding is_formed end_place
+bad_is b p k ep ek ne =
+    let g : eqb (end_place b) (length b) ≡ false =
+    ne_eqb (end_place b) (length b) (λ (q : end_place b ≡ length b). ne (rw (ek, ep) q)) in
+    rw (ep, g) refl
+
+-- and so a line with parts is well formed, and one of bad form is not
+pub some-parts : (b : List ℕ) (p : Parts) → Ok p ≡ parts_of b → (is_formed b ≡ true) × (p ≡ places_of b)
 some-parts b p e = go (is_formed b) e
   where
-    go : (z : Bool) → Some p ≡ choose z (Some (places_of b)) None → (z ≡ true) × (p ≡ places_of b)
+    go : (z : Bool) → Ok p ≡ choose z (Ok (places_of b)) (Err (places_of b)) → (z ≡ true) × (p ≡ places_of b)
     go true q = (refl, grind arith)
     go false q = grind arith
 
-pub no-parts : (b : List ℕ) → None ≡ parts_of b → is_formed b ≡ false
-no-parts b e = go (is_formed b) e
+pub no-parts : (b : List ℕ) (p : Parts) → Err p ≡ parts_of b → is_formed b ≡ false
+no-parts b p e = go (is_formed b) e
   where
-    go : (z : Bool) → None ≡ choose z (Some (places_of b)) None → z ≡ false
+    go : (z : Bool) → Err p ≡ choose z (Ok (places_of b)) (Err (places_of b)) → z ≡ false
     go true q = grind arith
     go false q = refl
 
 -- a well formed line has its picture's byte count within
-pub picture-room : (b : List ℕ) (p : Parts) → Some p ≡ parts_of b → p.picture + 2 ≤ length b
+pub picture-room : (b : List ℕ) (p : Parts) → Ok p ≡ parts_of b → p.picture + 2 ≤ length b
 unfolding is_formed end_place
 picture-room b p e =
     let f = some-parts b p e in
@@ -95,7 +101,7 @@ picture-room b p e =
     omega arith
 
 -- and its loads
-pub writes-room : (b : List ℕ) (p : Parts) → Some p ≡ parts_of b → p.writes ≤ length b
+pub writes-room : (b : List ℕ) (p : Parts) → Ok p ≡ parts_of b → p.writes ≤ length b
 unfolding picture_place
 writes-room b p e =
     let f = some-parts b p e in

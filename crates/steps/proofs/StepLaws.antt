@@ -8,7 +8,6 @@ use native.Mathlib.Omega.{arith}
 use borrow.Author.Tests.{eq-eqb, ne_eqb}
 use lib.ListN.{length, take, drop}
 use lib.Seq.{drop-cons}
-use Rattle.std.specs.Prelude.{◌≢◌}
 use Rattle.lists.proofs.Choice.{same_or}
 use Rattle.answers.specs.Answers.{done}
 use Rattle.runs.specs.Run.{Many}
@@ -17,7 +16,7 @@ use Rattle.runs.proofs.RunLaws.{run_none, run-goes, run-stops}
 use Rattle.display.specs.declared.Display.{Display}
 use Rattle.display.specs.declared.Told.{Told}
 use Rattle.display.specs.declared.Ran.{Ran}
-use Rattle.display.specs.State.{told, write_of}
+use Rattle.display.specs.State.{told, write_of, select_of}
 use Rattle.display.specs.Put.{put_of, put_tables}
 use Rattle.display.specs.Runs.{Lent, lent, put_one, puts, put_run_of, put_run_tables}
 use Rattle.steps.specs.Form.{byte_at, count_at, word_at, loads_of, writes_place}
@@ -36,18 +35,13 @@ step_of-done : (t r : Told) (l u : List ℕ) (s : Act) → t.answer ≡ done →
 unfolding step_of
 step_of-done t r l u s h e = simp (eq-eqb t.answer done h) e
 
+pub select-done : (t r : Told) (l : List ℕ) (n : ℕ) → t.answer ≡ done → r ≡ select_of t.state n
+    → midway r l ≡ step_of (midway t l) (Act.select n)
+select-done t r l n h e = step_of-done t r l l (Act.select n) h (rw e refl)
+
 pub write_done : (t r : Told) (l : List ℕ) (n v : ℕ) → t.answer ≡ done → r ≡ write_of t.state n v
     → midway r l ≡ step_of (midway t l) (Act.write n v)
 write_done t r l n v h e = step_of-done t r l l (Act.write n v) h (rw e refl)
-
--- a step that is left out after a refusal
-pub step_of-unless : (t r : Told) (l : List ℕ) (s : Act) → (t.answer ≢ done → r ≡ t)
-    → (t.answer ≡ done → midway r l ≡ act_of t.state l s) → midway r l ≡ step_of (midway t l) s
-step_of-unless t r l s out did =
-    ⊎_elim
-    (λ (h : t.answer ≡ done). step_of-done t r l l s h (did h))
-    (λ (h : t.answer ≢ done). ap (λ (q : Told). midway q l) (out h) ∙ step_of-refused t l s h)
-    (same_or t.answer done)
 
 -- ---- steps in a row
 

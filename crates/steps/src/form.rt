@@ -1,6 +1,6 @@
 // Where the parts of a line's bytes stand. Reads past the end give 0, so that places are told of any bytes: a line is
 // good where its parts end exactly at its own end.
-ghost use Rattle.std.specs.Prelude.{◌≡◌, ◌<◌, IfSome};
+ghost use Rattle.std.specs.Prelude.{◌≡◌, ◌<◌, IfOk, IfErr};
 ghost use Rattle.steps.specs.Form.{byte_at, count_at, word_at, writes_place};
 ghost use Rattle.steps.specs.Engine.Parts.{places_of, parts_of};
 
@@ -56,12 +56,16 @@ pub fn places_of(b: &[u8]) -> Parts
     Parts { writes, picture }
 }
 
-// The parts of a line; nothing of one that does not end where they do.
-pub fn parts_of(b: &[u8]) -> Option<Parts>
+// The parts of a line; of one that does not end where they do the same places, as an error.
+pub fn parts_of(b: &[u8]) -> Result<Parts, Parts>
     ensures value { result ≡ parts_of b.now }
-    ensures small { IfSome result (λ p. (p.writes < 33554432) × (p.picture < 67108864)) }
+    ensures small { IfOk result (λ p. (p.writes < 33554432) × (p.picture < 67108864)) }
+    ensures refused { IfErr result (λ p. (p.writes < 33554432) × (p.picture < 67108864)) }
 {
     let parts = places_of(b);
     let end = parts.picture + 2 + count_at(b, parts.picture);
-    (end == b.len()).then_some(parts)
+    if end == b.len() {
+        return Ok(parts);
+    }
+    Err(parts)
 }

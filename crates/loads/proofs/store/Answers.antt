@@ -7,4 +7,4 @@ pub returns-then-is_empty : goal.returns-then-is_empty
 returns-then-is_empty c = stored-empty _ _ _ (true-eqb _ _ c.if-is_empty.ensures)
 
 pub returns : goal.returns
-returns c = rw (← c.first_byte_of.ensures.0) (stored-lent _ _ _ _ c.copy_from_slice.ensures.after)
+returns c = rw (← c.first_byte_of.ensures.0) (stored-lent _ _ _ _ c.copy.ensures)

@@ -5,7 +5,7 @@ use Rattle.lists.specs.Tab.{each}
 use Rattle.scanline.specs.Engine.Lines.{OnRow}
 use Rattle.scanline.proofs.FitLaws.{on_row_lem}
 use Rattle.scanline.proofs.GroundLaws.{under-kept}
-use Rattle.scanline.proofs.LineLaws.{step-beside, step-over}
+use Rattle.scanline.proofs.LineLaws.{step-beside, step-over, laid-line}
 use Rattle.scanline.proofs.line.layer_line.Goals as goal
 
 pub returns-then-not-is_on_row : goal.returns-then-not-is_on_row
@@ -22,7 +22,5 @@ pub returns : goal.returns
 returns c =
     let row : OnRow c.args.step.now c.args.y = on_row_lem _ _ (sym c.is_on_row.ensures ∙ c.if-not-is_on_row.false) in
     let laid = c.lay_picture.ensures in
-    record {
-      over = λ s same long m.
-          step-over s _ _ m row laid.row (laid.made.own s same m) _ _ long (laid.over ∙ ap (each _) (sym (under-kept _)));
-    }
+    laid-line _ _ _ _ _ row
+    (record { row = laid.row; made = laid.made; over = laid.over ∙ ap (each _) (sym (under-kept _)) })
