@@ -30,7 +30,7 @@ pub step_of-refused : (t : Told) (l : List ℕ) (s : Act) → (t.answer ≡ done
 unfolding step_of
 step_of-refused t l s h = simp (ne_eqb t.answer done h)
 
-step_of-done : (t r : Told) (l u : List ℕ) (s : Act) → t.answer ≡ done → midway r u ≡ act_of t.state l s
+pub step_of-done : (t r : Told) (l u : List ℕ) (s : Act) → t.answer ≡ done → midway r u ≡ act_of t.state l s
     → midway r u ≡ step_of (midway t l) s
 unfolding step_of
 step_of-done t r l u s h e = simp (eq-eqb t.answer done h) e
